@@ -52,8 +52,8 @@ use Rattle.bw_program.specs.Requests.{NewRecording, KeptRecording, AnyRecording}
 use Rattle.bw_program.specs.Requests.{FoundRecording, RecordingWithReceipt, RecordingAsAsked}
 use Rattle.bw_program.specs.Requests.{SpooledSamples, FileSamples, AnySamples}
 use Rattle.bw_program.specs.Requests.{EachRecording, NamedRecording, OneRecording}
-use Rattle.bw_program.specs.SeveralCommands.{DoesInTurn, IsRequestOf, IsSenderOf, SaysLine, queue_line}
-use Rattle.bw_queue.specs.NamedRecordings.{path_of}
+use Rattle.bw_program.specs.SeveralCommands.{DoesInTurn, IsRequestOf, IsSenderOf, PrintsQueueLine, queue_line}
+use Rattle.bw_queue.specs.NamedRecordings.{queued_path}
 use Rattle.bw_queue.specs.QueueOpenings.{OpensQueue, ReportsLine, opening_world}
 use Rattle.bw_queue.specs.StoredRecordings.{HasReceipt}
 use Rattle.bw_queue.specs.declared.recording.QueuedRecording.{QueuedRecording}
@@ -241,7 +241,7 @@ module _ {S T F H G M SB SL KP RC Ed LK DK DF N X Z P R W L K SP SK D A B U J Q 
     pub said : Exit
     pub out : O
     pub faults : E
-    pub says : SaysLine host.out host.reported (queue_line (codes "sending") recording) said
+    pub says : PrintsQueueLine host.out host.reported (queue_line (codes "sending") recording) said
         x.out out x.faults faults
     pub ends : SendsAfter said sender exit (record x { out = out; faults = faults }) x'
 
@@ -250,7 +250,7 @@ module _ {S T F H G M SB SL KP RC Ed LK DK DF N X Z P R W L K SP SK D A B U J Q 
       (x x' : ProgramWorld S F DK N Q I O E) : Type 0 where
     pub out : O
     pub faults : E
-    pub says : SaysLine host.out host.reported (queue_line (codes "skipped") recording) exit
+    pub says : PrintsQueueLine host.out host.reported (queue_line (codes "skipped") recording) exit
         x.out out x.faults faults
     pub alone : x' ≡ record x { out = out; faults = faults }
 
@@ -268,7 +268,7 @@ module _ {S T F H G M SB SL KP RC Ed LK DK DF N X Z P R W L K SP SK D A B U J Q 
     pub files : F
     pub unchanged : host.files.file_at files ≡ host.files.file_at x.files
     pub found : Result Bool AllocError
-    pub has : IfOk found (λ has. HasReceipt (host.files.file_at x.files (path_of recording)) receipts recording
+    pub has : IfOk found (λ has. HasReceipt (host.files.file_at x.files (queued_path recording)) receipts recording
         has (host.files.failures x.files) (host.files.failures files))
     pub ends : SendsUnless found several recording exit (record x { files = files }) x'
 

@@ -59,7 +59,7 @@ queue_line word recording =
     word ++ (codes " " ++ (recording.name ++ (codes " " ++ (string_bytes recording.path ++ 10 ∷ []))))
 
 -- a line was printed, or it can't be, which is reported
-pub record SaysLine {O E : Type 0} (out : Writer O) (reported : Writer E) (line : List ℕ) (exit : Exit)
+pub record PrintsQueueLine {O E : Type 0} (out : Writer O) (reported : Writer E) (line : List ℕ) (exit : Exit)
     (o o' : O) (e e' : E) : Type 0 where
   pub did : Outcome
   pub ends : did.exit ≡ exit

@@ -2,7 +2,7 @@
 ghost use Rattle.std.specs.Prelude.{◌≡◌, IfOk, option_map, string_bytes};
 ghost use Rattle.bw_args.specs.declared.Task.TheVariants.{SendFiles};
 ghost use Rattle.bw_program.specs.Requests.{ByTask, ByUpload, EachRecording, NamedRecording, OneRecording};
-ghost use Rattle.bw_program.specs.SeveralCommands.{IsRequestOf, SaysLine, queue_line, receipts_path};
+ghost use Rattle.bw_program.specs.SeveralCommands.{IsRequestOf, PrintsQueueLine, queue_line, receipts_path};
 ghost use Rattle.bw_report.specs.FileFindings.{worse as worse_exit};
 
 use crate::behavior::Behavior;
@@ -148,7 +148,7 @@ fn say_line<W: Sink, E: Sink>(
     out: &mut W,
     faults: &mut E,
 ) -> Exit
-    ensures { SaysLine W.Sink E.Sink (queue_line word.now recording.now) result out.old out.new
+    ensures { PrintsQueueLine W.Sink E.Sink (queue_line word.now recording.now) result out.old out.new
         faults.old faults.new }
 {
     match line_of(alloc, word, recording) {

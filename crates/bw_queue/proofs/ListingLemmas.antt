@@ -11,7 +11,7 @@ use Rattle.bw_disk.specs.declared.disk.Disk.{Ghosts as DiskGhosts}
 use Rattle.bw_ports.specs.declared.file_kind.FileKinds.{Ghosts as KindGhosts}
 use Rattle.bw_ports.specs.declared.file_kind.FileKind.{FileKind}
 use Rattle.bw_ports.specs.declared.file_kind.FileKind.TheVariants.{Device, Folder, Pipe, Regular, Socket, Unknown}
-use Rattle.bw_queue.specs.FolderRecordings.{EachGives, ListsRecordings, StandsBy, StandsFor}
+use Rattle.bw_queue.specs.FolderRecordings.{EachGives, ListsRecordings, StandsBy, StandsForPaths}
 use Rattle.bw_queue.specs.QueueSides.{QueueSide, disk_reads, queue_side}
 
 -- what one more gives is added
@@ -84,7 +84,7 @@ by_kind kinds files disk old new Unknown path own stays stands = stands
 -- what a path stands for, it stood for before
 pub stood_before : {F D DF : Type 0} (kinds : KindGhosts F) (files : F) (disk : DiskGhosts D DF) (old new : D)
     (path : List ℕ) (own : List (List ℕ)) → StaysWhole disk old new →
-    StandsFor (queue_side kinds files disk new) path own → StandsFor (queue_side kinds files disk old) path own
+    StandsForPaths (queue_side kinds files disk new) path own → StandsForPaths (queue_side kinds files disk old) path own
 stood_before kinds files disk old new path own stays stands =
     (stands.0, stands.1, by_kind kinds files disk old new stands.0 path own stays stands.2)
 

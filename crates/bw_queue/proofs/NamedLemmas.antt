@@ -4,7 +4,7 @@ use Rattle.std.specs.List.{All, AllPairs, Any}
 use Rattle.std.proofs.lemmas.List.{get_or-map, length-map, map-append, take_all, take_more}
 use Rattle.std.proofs.lemmas.List.Elements.{All-push}
 use Rattle.std.proofs.lemmas.List.Quantifiers.{all_pairs_push}
-use Rattle.bw_queue.specs.NamedRecordings.{AreApart, AreNamed, IsNameFor, IsOneNamed, SaysNameless, path_of}
+use Rattle.bw_queue.specs.NamedRecordings.{AreNamedApart, AreNamed, IsNameFor, IsOneNamed, SaysNameless, queued_path}
 use Rattle.bw_queue.specs.QueueFaults.{FaultSays}
 use Rattle.bw_queue.specs.declared.fault.QueueFault.{QueueFault}
 use Rattle.bw_queue.specs.declared.fault.QueueFault.TheVariants.{Refused, Unread, Memory}
@@ -12,13 +12,13 @@ use Rattle.bw_queue.specs.declared.recording.QueuedRecording.{QueuedRecording}
 
 -- the same of one more path
 pub named_more : (lines paths : List (List ℕ)) (recordings : List QueuedRecording) (path : List ℕ)
-    (recording : QueuedRecording) → AreNamed lines paths recordings → path_of recording ≡ path →
+    (recording : QueuedRecording) → AreNamed lines paths recordings → queued_path recording ≡ path →
     IsNameFor lines path recording.name → AreNamed lines (paths ++ path ∷ []) (recordings ++ recording ∷ [])
 named_more lines paths recordings path recording are located named = record {
-  located = map-append path_of recordings (recording ∷ [])
-      ∙ (ap (λ (xs : List (List ℕ)). xs ++ path_of recording ∷ []) are.located
+  located = map-append queued_path recordings (recording ∷ [])
+      ∙ (ap (λ (xs : List (List ℕ)). xs ++ queued_path recording ∷ []) are.located
       ∙ ap (λ (x : List ℕ). paths ++ x ∷ []) located);
-  named = All-push (λ (r : QueuedRecording). IsNameFor lines (path_of r) r.name) recordings recording are.named
+  named = All-push (λ (r : QueuedRecording). IsNameFor lines (queued_path r) r.name) recordings recording are.named
       (subst (λ (p : List ℕ). IsNameFor lines p recording.name) (sym located) named);
 }
 
@@ -49,10 +49,10 @@ says_more refuses reads refuses' reads' one other Memory says = tt
 
 -- one more recording whose name none before it has
 pub apart_more : (recordings : List QueuedRecording) (place : ℕ) (d : QueuedRecording) → place < length recordings →
-    AreApart (take place recordings) →
+    AreNamedApart (take place recordings) →
     All (λ recording. recording.name ≢ (get_or recordings place d).name) (take place recordings) →
-    AreApart (take (place + 1) recordings)
-apart_more recordings place d inside apart none = subst AreApart (sym (take_more recordings place d inside))
+    AreNamedApart (take (place + 1) recordings)
+apart_more recordings place d inside apart none = subst AreNamedApart (sym (take_more recordings place d inside))
     (all_pairs_push (λ (first second : QueuedRecording). first.name ≢ second.name) (take place recordings)
     (get_or recordings place d) apart none)
 

@@ -8,7 +8,7 @@ use Rattle.std.specs.Bool.{MatchBool}
 use Rattle.std.specs.Borrow.{Bor}
 use Rattle.std.specs.Cmp.Lexicographic.{pointwise}
 use Rattle.bw_model.specs.Wire.{is_name, is_name_byte}
-use Rattle.bw_queue.specs.Namings.{AreGoodBefore, GivesName, GivesNone, IsFirstBadLine, IsGoodLineAt, IsGoodNaming, IsNaming}
+use Rattle.bw_queue.specs.Namings.{AreGoodBefore, NamesPath, GivesNone, IsFirstBadNaming, IsGoodLineAt, IsGoodNaming, IsNaming}
 
 -- no byte of a name is a blank
 not_blank : (c : ℕ) → is_name_byte c ≡ true → (c == 32) ≡ false
@@ -93,13 +93,13 @@ same_path line name path name' path' is is' =
     sym (naming_parts line name path (length name) here is).1 ∙ (naming_parts line name' path' (length name) here is').1
 
 -- no line names a path that one of them names
-names_once : (lines : List (List ℕ)) (path name : List ℕ) → GivesNone lines path → GivesName lines path name → ⊥
+names_once : (lines : List (List ℕ)) (path name : List ℕ) → GivesNone lines path → NamesPath lines path name → ⊥
 names_once lines path name none some = none some.0 some.1 some.2 name
     (subst (λ (l : List ℕ). IsNaming l name path) (sym some.3) some.4)
 
 -- a line that names a path which one before it names isn't good
 pub named_twice : (before : List (List ℕ)) (line name path other : List ℕ) → (length line == 0) ≡ false →
-    IsNaming line name path → GivesName before path other → IsGoodNaming before line → ⊥
+    IsNaming line name path → NamesPath before path other → IsGoodNaming before line → ⊥
 named_twice before line name path other full is given (inl empty) = absurd (search (rules, tests, full, empty))
 named_twice before line name path other full is given (inr good) =
     names_once before path other (subst (λ (p : List ℕ). GivesNone before p)

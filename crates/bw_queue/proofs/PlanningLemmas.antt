@@ -6,7 +6,7 @@ use Rattle.bw_disk.specs.DiskSteps.{StaysWhole}
 use Rattle.bw_disk.specs.declared.disk.Disk.{Ghosts as DiskGhosts}
 use Rattle.bw_ports.specs.declared.file_kind.FileKinds.{Ghosts as KindGhosts}
 use Rattle.bw_take_files.specs.declared.receipts.receipt.Receipt.{Receipt}
-use Rattle.bw_queue.specs.FolderRecordings.{EachGives, SaysEmptyFolder, StandsFor}
+use Rattle.bw_queue.specs.FolderRecordings.{EachGives, SaysEmptyFolder, StandsForPaths}
 use Rattle.bw_queue.specs.KeptReceipts.{HasBadLine, SaysAllBut, ended_lines}
 use Rattle.bw_queue.specs.QueueFaults.{FaultSays, no_receipt_text}
 use Rattle.bw_queue.specs.QueueSides.{disk_reads, queue_side}
@@ -69,8 +69,8 @@ module _ {F D DF : Type 0} (kinds : KindGhosts F) (files : F) (disk : DiskGhosts
 
   -- what all paths stand for, they stood for before
   pub all_stood_before : (paths : List (List ℕ)) (all : List (List ℕ)) →
-      EachGives (StandsFor (queue_side kinds files disk new)) paths all →
-      EachGives (StandsFor (queue_side kinds files disk old)) paths all
+      EachGives (StandsForPaths (queue_side kinds files disk new)) paths all →
+      EachGives (StandsForPaths (queue_side kinds files disk old)) paths all
   all_stood_before [] all stand = stand
   all_stood_before (path ∷ paths) all stand = (
     stand.0,

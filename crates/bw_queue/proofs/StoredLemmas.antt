@@ -9,7 +9,7 @@ use Rattle.bw_stream.specs.Readers.{Of}
 use Rattle.bw_inspect.specs.declared.fault.InspectFault.{InspectFault}
 use Rattle.bw_inspect.specs.declared.fault.InspectKind.TheVariants.{Read}
 use Rattle.bw_take_files.specs.declared.receipts.receipt.Receipt.{Receipt}
-use Rattle.bw_queue.specs.StoredRecordings.{IsReceiptIn, IsUnreadable}
+use Rattle.bw_queue.specs.StoredRecordings.{IsReceiptIn, IsFileUnread}
 use Rattle.bw_queue.proofs.NamingLemmas.{same_bytes}
 use Rattle.bw_queue.specs.declared.recording.QueuedRecording.{QueuedRecording}
 
@@ -24,7 +24,7 @@ failed : InspectFault
 failed = record { kind = Read; offset = 0 }
 
 -- a file that couldn't be read, where each call of the system succeeded
-pub unread_same : (file : Option (List ℕ)) (n n' : ℕ) → n' ≡ n → IsUnreadable file n n'
+pub unread_same : (file : Option (List ℕ)) (n n' : ℕ) → n' ≡ n → IsFileUnread file n n'
 unfolding failed
 unread_same file n n' same = inr (same, (failed, λ b e met is. absurd (search (rules, is))))
 
@@ -39,12 +39,12 @@ same_receipt name name' frames frames' digest digest' p q r = λ i. receipt (p i
 -- what is found of a file, after a call that left it as it was
 pub found_after : (file there : Option (List ℕ)) (n m n' : ℕ) (r : Option Receipt) (recording : QueuedRecording) →
     there ≡ file → m ≡ n →
-    MatchOption r (IsUnreadable there m n') (λ receipt. Of there (λ b. IsReceiptIn recording b receipt) × (n' ≡ m)) →
-    MatchOption r (IsUnreadable file n n') (λ receipt. Of file (λ b. IsReceiptIn recording b receipt) × (n' ≡ n))
+    MatchOption r (IsFileUnread there m n') (λ receipt. Of there (λ b. IsReceiptIn recording b receipt) × (n' ≡ m)) →
+    MatchOption r (IsFileUnread file n n') (λ receipt. Of file (λ b. IsReceiptIn recording b receipt) × (n' ≡ n))
 found_after file there n m n' r recording same count found =
-    subst (λ (f : Option (List ℕ)). MatchOption r (IsUnreadable f n n')
+    subst (λ (f : Option (List ℕ)). MatchOption r (IsFileUnread f n n')
     (λ receipt. Of f (λ b. IsReceiptIn recording b receipt) × (n' ≡ n))) same
-    (subst (λ (k : ℕ). MatchOption r (IsUnreadable there k n')
+    (subst (λ (k : ℕ). MatchOption r (IsFileUnread there k n')
     (λ receipt. Of there (λ b. IsReceiptIn recording b receipt) × (n' ≡ k))) count found)
 
 -- whether two receipts have the same parts

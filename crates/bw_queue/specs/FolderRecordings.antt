@@ -39,15 +39,15 @@ IsQueuedFile kinds folder file = IsRecordingName file
     × ((kind : FileKind) × kinds (path_within folder file) kind × (is_odd_kind kind false ≡ false))
 
 -- it isn't: its name is none of a recording, or something else than a file is there
-abbrev pub IsPassedOver : (List ℕ → FileKind → Type 0) → List ℕ → List ℕ → Type 0
-IsPassedOver kinds folder file = (¬ IsRecordingName file)
+abbrev pub IsNotQueued : (List ℕ → FileKind → Type 0) → List ℕ → List ℕ → Type 0
+IsNotQueued kinds folder file = (¬ IsRecordingName file)
     ⊎ ((kind : FileKind) × kinds (path_within folder file) kind × (is_odd_kind kind false ≡ true))
 
 -- the path of a file that is one, or none
 abbrev pub GivesRecording : (List ℕ → FileKind → Type 0) → List ℕ → List ℕ → List (List ℕ) → Type 0
 GivesRecording kinds folder file paths =
     (IsQueuedFile kinds folder file × (paths ≡ path_within folder file ∷ []))
-    ⊎ (IsPassedOver kinds folder file × (paths ≡ []))
+    ⊎ (IsNotQueued kinds folder file × (paths ≡ []))
 
 -- all that each of these gives, one after another
 abbrev pub EachGives : {X : Type 0} → (X → List (List ℕ) → Type 0) → List X → List (List ℕ) → Type 0
@@ -69,8 +69,8 @@ abbrev pub StandsBy : QueueSide → FileKind → List ℕ → List (List ℕ) �
 StandsBy side Folder path own = ListsRecordings side path own × (own ≢ [])
 StandsBy side kind path own = own ≡ path ∷ []
 
-abbrev pub StandsFor : QueueSide → List ℕ → List (List ℕ) → Type 0
-StandsFor side path own = (kind : FileKind) × side.kinds path kind × StandsBy side kind path own
+abbrev pub StandsForPaths : QueueSide → List ℕ → List (List ℕ) → Type 0
+StandsForPaths side path own = (kind : FileKind) × side.kinds path kind × StandsBy side kind path own
 
 -- the line of one of these paths, which is that of a folder without recordings
 abbrev pub SaysEmptyFolder : QueueSide → List (List ℕ) → List ℕ → Type 0

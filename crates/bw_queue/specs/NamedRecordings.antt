@@ -3,14 +3,14 @@ use Rattle.std.specs.Prelude.{◌≡◌, ◌≢◌, ◌⊎◌, ◌<◌, ℕ, Lis
 use Rattle.std.specs.Prelude.{slice_index_or}
 use Rattle.std.specs.List.{AllPairs, Any}
 use Rattle.bw_model.specs.Wire.{is_name}
-use Rattle.bw_queue.specs.Namings.{GivesName, GivesNone}
+use Rattle.bw_queue.specs.Namings.{NamesPath, GivesNone}
 use Rattle.bw_queue.specs.PathNames.{name_made}
 use Rattle.bw_queue.specs.QueueFaults.{alike_text, nameless_text}
 use Rattle.bw_queue.specs.declared.recording.QueuedRecording.{QueuedRecording}
 
 -- the name of the recording at a path: the one that a line gives it, or else the one that the path makes
 abbrev pub IsNameFor : List (List ℕ) → List ℕ → List ℕ → Type 0
-IsNameFor lines path name = GivesName lines path name
+IsNameFor lines path name = NamesPath lines path name
     ⊎ (GivesNone lines path × (name ≡ name_made path) × IsTrue (is_name (name_made path)))
 
 -- no line gives the path a name, and it makes none
@@ -18,17 +18,17 @@ abbrev pub IsNameless : List (List ℕ) → List ℕ → Type 0
 IsNameless lines path = GivesNone lines path × ¬ IsTrue (is_name (name_made path))
 
 -- the path of a recording
-abbrev pub path_of : QueuedRecording → List ℕ
-path_of recording = string_bytes recording.path
+abbrev pub queued_path : QueuedRecording → List ℕ
+queued_path recording = string_bytes recording.path
 
 -- these are the recordings at these paths, in their order, each with its name
 pub record AreNamed (lines paths : List (List ℕ)) (recordings : List QueuedRecording) : Type 0 where
-  pub located : map path_of recordings ≡ paths
-  pub named : All (λ recording. IsNameFor lines (path_of recording) recording.name) recordings
+  pub located : map queued_path recordings ≡ paths
+  pub named : All (λ recording. IsNameFor lines (queued_path recording) recording.name) recordings
 
 -- no two have one name
-abbrev pub AreApart : List QueuedRecording → Type 0
-AreApart recordings = AllPairs (λ first second. first.name ≢ second.name) recordings
+abbrev pub AreNamedApart : List QueuedRecording → Type 0
+AreNamedApart recordings = AllPairs (λ first second. first.name ≢ second.name) recordings
 
 -- the line of one of these paths, which has no name
 abbrev pub SaysNameless : List (List ℕ) → List (List ℕ) → List ℕ → Type 0
@@ -43,4 +43,4 @@ IsOneNamed recordings name found =
 abbrev pub SaysAlike : List QueuedRecording → List ℕ → Type 0
 SaysAlike recordings line = (place : ℕ) × (first second : QueuedRecording) × (place < length recordings)
     × (slice_index_or recordings place second ≡ second) × IsOneNamed (take place recordings) second.name first
-    × (line ≡ alike_text (path_of first) (path_of second))
+    × (line ≡ alike_text (queued_path first) (queued_path second))

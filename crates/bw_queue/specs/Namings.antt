@@ -15,8 +15,8 @@ pub record IsNaming (line name path : List ℕ) : Type 0 where
   pub is : line ≡ name ++ 32 ∷ path
 
 -- one of the lines gives this path this name
-abbrev pub GivesName : List (List ℕ) → List ℕ → List ℕ → Type 0
-GivesName lines path name = Any (λ line. IsNaming line name path) lines
+abbrev pub NamesPath : List (List ℕ) → List ℕ → List ℕ → Type 0
+NamesPath lines path name = Any (λ line. IsNaming line name path) lines
 
 -- none of the lines gives this path a name
 abbrev pub GivesNone : List (List ℕ) → List ℕ → Type 0
@@ -36,7 +36,7 @@ abbrev pub AreGoodBefore : ℕ → List (List ℕ) → Type 0
 AreGoodBefore end lines = (place : ℕ) → place < end → IsGoodLineAt lines place
 
 -- of the lines, counted from 1, this is the first that isn't good
-pub record IsFirstBadLine (lines : List (List ℕ)) (number : ℕ) : Type 0 where
+pub record IsFirstBadNaming (lines : List (List ℕ)) (number : ℕ) : Type 0 where
   pub place : ℕ
   pub inside : place < length lines
   pub counted : number ≡ place + 1

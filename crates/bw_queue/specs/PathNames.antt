@@ -25,12 +25,12 @@ abbrev pub stem_part : List ℕ → List ℕ
 stem_part file = before_place (rfind_below 46 file (length file)) file
 
 -- a capital letter becomes a small one, and what no name has a hyphen
-abbrev pub name_byte : ℕ → ℕ
-name_byte c = if is_within 65 90 c then c + 32 else if is_name_byte c then c else 45
+abbrev pub byte_in_name : ℕ → ℕ
+byte_in_name c = if is_within 65 90 c then c + 32 else if is_name_byte c then c else 45
 
 -- what a byte of UTF-8 becomes, where those that go on with a character become nothing (RFC 3629, 3)
 abbrev pub name_part : ℕ → List ℕ
-name_part c = if is_within 128 191 c then [] else name_byte c ∷ []
+name_part c = if is_within 128 191 c then [] else byte_in_name c ∷ []
 
 -- the name that a path makes, as far as it is one
 unfoldable pub name_made : List ℕ → List ℕ

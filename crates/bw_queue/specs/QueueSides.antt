@@ -28,8 +28,8 @@ queue_side kinds files disk d = record {
 
 -- how often calls of the disk had failed before and after: none did, unless something couldn't be read, and
 -- then one did, or this file is missing
-abbrev pub CountsUnread : {T : Type 0} → Type 0 → ℕ → ℕ → Result T QueueFault → Type 0
-CountsUnread missing before after (Ok done) = after ≡ before
-CountsUnread missing before after (Err (Refused line)) = after ≡ before
-CountsUnread missing before after (Err (Unread line)) = (missing × (after ≡ before)) ⊎ Counts before after true
-CountsUnread missing before after (Err Memory) = ⊤
+abbrev pub CountsUnreadPaths : {T : Type 0} → Type 0 → ℕ → ℕ → Result T QueueFault → Type 0
+CountsUnreadPaths missing before after (Ok done) = after ≡ before
+CountsUnreadPaths missing before after (Err (Refused line)) = after ≡ before
+CountsUnreadPaths missing before after (Err (Unread line)) = (missing × (after ≡ before)) ⊎ Counts before after true
+CountsUnreadPaths missing before after (Err Memory) = ⊤

@@ -2,10 +2,10 @@
 use Rattle.std.specs.Prelude.{◌≡◌, ◌⊎◌, ℕ, List, [], Option, None, Some, length, map, option_map, string_bytes}
 use Rattle.std.specs.Borrow.{Bor}
 use Rattle.bw_take_files.specs.declared.receipts.receipt.Receipt.{Receipt}
-use Rattle.bw_queue.specs.FolderRecordings.{EachGives, SaysEmptyFolder, SaysUnlisted, StandsFor}
+use Rattle.bw_queue.specs.FolderRecordings.{EachGives, SaysEmptyFolder, SaysUnlisted, StandsForPaths}
 use Rattle.bw_queue.specs.KeptReceipts.{HasBadLine, SaysAllBut, ended_lines}
-use Rattle.bw_queue.specs.NamedRecordings.{AreApart, AreNamed, SaysAlike, SaysNameless}
-use Rattle.bw_queue.specs.Namings.{AreGoodBefore, IsFirstBadLine, naming_lines}
+use Rattle.bw_queue.specs.NamedRecordings.{AreNamedApart, AreNamed, SaysAlike, SaysNameless}
+use Rattle.bw_queue.specs.Namings.{AreGoodBefore, IsFirstBadNaming, naming_lines}
 use Rattle.bw_queue.specs.QueueFaults.{bad_naming_text, no_receipt_text, unreadable_text}
 use Rattle.bw_queue.specs.QueueSides.{QueueSide}
 use Rattle.bw_queue.specs.declared.recording.QueuedRecording.{QueuedRecording}
@@ -36,11 +36,11 @@ GivesReceipts reads (Some path) receipts =
 pub record AreNamedBy (text : List ℕ) (paths : List (List ℕ)) (recordings : List QueuedRecording) : Type 0 where
   pub good : AreGoodBefore (length (naming_lines text)) (naming_lines text)
   pub named : AreNamed (naming_lines text) paths recordings
-  pub apart : AreApart recordings
+  pub apart : AreNamedApart recordings
 
 -- the line of the first line of the file of names that isn't good
 abbrev pub SaysBadNaming : List ℕ → List ℕ → List ℕ → Type 0
-SaysBadNaming path text line = (number : ℕ) × IsFirstBadLine (naming_lines text) number
+SaysBadNaming path text line = (number : ℕ) × IsFirstBadNaming (naming_lines text) number
     × (line ≡ bad_naming_text path number)
 
 -- the line that says why a text gives the recordings at these paths no names
@@ -72,7 +72,7 @@ pub record IsQueue (side : QueueSide) (request : QueueRequest) (queue : Queue) :
   pub text : List ℕ
   pub given : GivesText side.reads (given_path request.names) text
   pub paths : List (List ℕ)
-  pub found : EachGives (StandsFor side) (map string_bytes request.paths.now) paths
+  pub found : EachGives (StandsForPaths side) (map string_bytes request.paths.now) paths
   pub named : AreNamedBy text paths queue.recordings.items
   pub known : GivesReceipts side.reads (given_path request.receipts) queue.receipts.items
 
@@ -81,7 +81,7 @@ abbrev pub SaysRefused : QueueSide → QueueRequest → List ℕ → Type 0
 SaysRefused side request line = SaysBadReceipt side.reads (given_path request.receipts) line
     ⊎ (SaysEmptyFolder side (map string_bytes request.paths.now) line
     ⊎ ((text : List ℕ) × GivesText side.reads (given_path request.names) text
-    × ((paths : List (List ℕ)) × EachGives (StandsFor side) (map string_bytes request.paths.now) paths
+    × ((paths : List (List ℕ)) × EachGives (StandsForPaths side) (map string_bytes request.paths.now) paths
     × SaysUnnamed (names_path (given_path request.names)) text paths line)))
 
 -- the line that says what can't be read

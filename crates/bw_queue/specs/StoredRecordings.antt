@@ -19,8 +19,8 @@ IsReceiptIn recording b receipt = (report : Report) × IsReportIn b report
     × (receipt ≡ receipt_with recording.name report (digest_at b report.data_at report.data_size))
 
 -- a file can't be opened, or has a fault or can't be read; so often calls had failed before and after
-abbrev pub IsUnreadable : Option (List ℕ) → ℕ → ℕ → Type 0
-IsUnreadable file n n' = (n' ≡ one_more n)
+abbrev pub IsFileUnread : Option (List ℕ) → ℕ → ℕ → Type 0
+IsFileUnread file n n' = (n' ≡ one_more n)
     ⊎ ((n' ≡ n) × ((fault : InspectFault) × Of file (λ b. (met : Fault) → bytes_fault fault ≡ Some met → IsFault b met)))
 
 -- a recording, whose file has these bytes if they are reported, has its receipt among these or not: none is of its
@@ -28,6 +28,6 @@ IsUnreadable file n n' = (n' ≡ one_more n)
 abbrev pub HasReceipt : Option (List ℕ) → List Receipt → QueuedRecording → Bool → ℕ → ℕ → Type 0
 HasReceipt file receipts recording has n n' =
     ((has ≡ false) × All (λ kept. kept.name ≢ recording.name) receipts × (n' ≡ n))
-    ⊎ (((has ≡ false) × IsUnreadable file n n')
+    ⊎ (((has ≡ false) × IsFileUnread file n n')
     ⊎ ((receipt : Receipt) × Of file (λ b. IsReceiptIn recording b receipt) × (n' ≡ n)
     × MatchBool has (Any (λ kept. kept ≡ receipt) receipts) (All (λ kept. kept ≢ receipt) receipts)))

@@ -7,10 +7,10 @@ ghost use Rattle.std.specs.Ordering.{nat_cmp};
 ghost use Rattle.bw_disk.specs.DiskSteps.{StaysWhole};
 ghost use Rattle.bw_ports.specs.declared.file_kind.FileKind.TheVariants.{Folder as IsFolder};
 ghost use Rattle.bw_queue.specs.FolderRecordings.{EachGives, GivesRecording, IsEndedBy, IsRecordingName};
-ghost use Rattle.bw_queue.specs.FolderRecordings.{ListsRecordings, SaysEmptyFolder, SaysUnlisted, StandsFor};
+ghost use Rattle.bw_queue.specs.FolderRecordings.{ListsRecordings, SaysEmptyFolder, SaysUnlisted, StandsForPaths};
 ghost use Rattle.bw_queue.specs.FolderRecordings.{is_slash_last as ends_with_slash, path_within, slash_between};
 ghost use Rattle.bw_queue.specs.QueueFaults.{FaultSays, no_recordings_text, unreadable_text};
-ghost use Rattle.bw_queue.specs.QueueSides.{CountsUnread, queue_side};
+ghost use Rattle.bw_queue.specs.QueueSides.{CountsUnreadPaths, queue_side};
 
 use crate::fault::{QueueFault, unreadable, without_recordings};
 use bw_disk::{ReadFault, Volume};
@@ -28,10 +28,10 @@ pub(crate) fn find_recordings<F: FileKinds, D: Volume>(
     disk: &mut D,
     paths: &[String],
 ) -> Result<Vec<String>, QueueFault>
-    ensures counts { CountsUnread ⊥ (D.failures disk.old) (D.failures disk.new) result }
+    ensures counts { CountsUnreadPaths ⊥ (D.failures disk.old) (D.failures disk.new) result }
     ensures disk { StaysWhole D.Disk disk.old disk.new }
     ensures found { MatchResult result
-        (λ found. EachGives (StandsFor (queue_side F.FileKinds files.now D.Disk disk.old))
+        (λ found. EachGives (StandsForPaths (queue_side F.FileKinds files.now D.Disk disk.old))
         (map string_bytes paths.now) (map string_bytes found.items))
         (FaultSays (SaysEmptyFolder (queue_side F.FileKinds files.now D.Disk disk.old)
         (map string_bytes paths.now)) (SaysUnlisted (queue_side F.FileKinds files.now D.Disk disk.old)
@@ -60,10 +60,10 @@ fn recordings_at<F: FileKinds, D: Volume>(
     disk: &mut D,
     path: &str,
 ) -> Result<Vec<String>, QueueFault>
-    ensures counts { CountsUnread ⊥ (D.failures disk.old) (D.failures disk.new) result }
+    ensures counts { CountsUnreadPaths ⊥ (D.failures disk.old) (D.failures disk.new) result }
     ensures disk { StaysWhole D.Disk disk.old disk.new }
     ensures found { MatchResult result
-        (λ own. StandsFor (queue_side F.FileKinds files.now D.Disk disk.old) path.now (map string_bytes own.items))
+        (λ own. StandsForPaths (queue_side F.FileKinds files.now D.Disk disk.old) path.now (map string_bytes own.items))
         (FaultSays
         (λ line. F.kinds files.now path.now IsFolder
         × ListsRecordings (queue_side F.FileKinds files.now D.Disk disk.old) path.now []
@@ -98,7 +98,7 @@ fn recordings_in<F: FileKinds, D: Volume>(
     disk: &mut D,
     folder: &str,
 ) -> Result<Vec<String>, QueueFault>
-    ensures counts { CountsUnread ⊥ (D.failures disk.old) (D.failures disk.new) result }
+    ensures counts { CountsUnreadPaths ⊥ (D.failures disk.old) (D.failures disk.new) result }
     ensures disk { StaysWhole D.Disk disk.old disk.new }
     ensures found { MatchResult result
         (λ own. ListsRecordings (queue_side F.FileKinds files.now D.Disk disk.old) folder.now

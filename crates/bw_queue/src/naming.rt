@@ -1,7 +1,7 @@
 //! Recordings are given the names of their takes.
 ghost use Rattle.std.specs.Prelude.{◌≡◌, ◌≢◌, ◌⊎◌, ◌<◌, All, IfOk, IsTrue, MatchOption, MatchResult, length, map};
 ghost use Rattle.std.specs.Prelude.{string_bytes};
-ghost use Rattle.bw_queue.specs.NamedRecordings.{AreApart, AreNamed, IsNameFor, IsNameless, IsOneNamed, path_of};
+ghost use Rattle.bw_queue.specs.NamedRecordings.{AreNamedApart, AreNamed, IsNameFor, IsNameless, IsOneNamed, queued_path};
 ghost use Rattle.bw_queue.specs.NamedRecordings.{SaysAlike, SaysNameless};
 ghost use Rattle.bw_queue.specs.QueueFaults.{FaultSays, nameless_text};
 
@@ -41,7 +41,7 @@ pub(crate) fn name_recordings(
 /// The recording at a path, with its name.
 fn name_recording(alloc: Global, lines: &[&[u8]], path: &str) -> Result<QueuedRecording, QueueFault>
     ensures { MatchResult result
-        (λ recording. (path_of recording ≡ path.now)
+        (λ recording. (queued_path recording ≡ path.now)
         × IsNameFor (map (λ x. x.now) lines.now) path.now recording.name)
         (FaultSays (λ line. IsNameless (map (λ x. x.now) lines.now) path.now × (line ≡ nameless_text path.now))
         (λ line. ⊥)) }
@@ -71,7 +71,7 @@ fn name_for(alloc: Global, lines: &[&[u8]], path: &str) -> Result<Option<Name>, 
 /// # Errors
 /// `Refused` with the line of both; `Memory`.
 pub(crate) fn refuse_alike(alloc: Global, recordings: &[QueuedRecording]) -> Result<(), QueueFault>
-    ensures { MatchResult result (λ done. AreApart recordings.now)
+    ensures { MatchResult result (λ done. AreNamedApart recordings.now)
         (FaultSays (SaysAlike recordings.now) (λ line. ⊥)) }
 {
     for place in 0..recordings.len() {

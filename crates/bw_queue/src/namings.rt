@@ -1,7 +1,7 @@
 //! Files that give takes their names: a line `NAME PATH` for each.
 ghost use Rattle.std.specs.Prelude.{◌≡◌, ◌==◌, ◌<◌, ℕ, List, IfOk, MatchBool, MatchOption, IfSome, length, map};
 ghost use Rattle.std.specs.List.{position};
-ghost use Rattle.bw_queue.specs.Namings.{AreGoodBefore, GivesName, GivesNone, IsFirstBadLine, IsGoodLineAt, IsGoodNaming, IsNaming};
+ghost use Rattle.bw_queue.specs.Namings.{AreGoodBefore, NamesPath, GivesNone, IsFirstBadNaming, IsGoodLineAt, IsGoodNaming, IsNaming};
 ghost use Rattle.bw_queue.specs.Namings.{naming_lines};
 
 use bw_model::Name;
@@ -19,7 +19,7 @@ pub(crate) fn lines_of(alloc: Global, text: &[u8]) -> Result<Vec<&[u8]>, AllocEr
 pub(crate) fn bad_line(lines: &[&[u8]]) -> Option<u64>
     ensures { MatchOption result
         (AreGoodBefore (length lines.now) (map (λ x. x.now) lines.now))
-        (IsFirstBadLine (map (λ x. x.now) lines.now)) }
+        (IsFirstBadNaming (map (λ x. x.now) lines.now)) }
 {
     for place in 0..lines.len() {
         if !is_good_at(lines, place) {
@@ -58,7 +58,7 @@ fn is_good_after(before: &[&[u8]], line: &[u8]) -> bool
 /// The name that the first of these lines that names a path gives it.
 pub(crate) fn name_in(lines: &[&[u8]], path: &[u8]) -> Option<Name>
     ensures { MatchOption result (GivesNone (map (λ x. x.now) lines.now) path.now)
-        (GivesName (map (λ x. x.now) lines.now) path.now) }
+        (NamesPath (map (λ x. x.now) lines.now) path.now) }
 {
     for line in lines {
         if let Some(name) = name_on(line, path) {

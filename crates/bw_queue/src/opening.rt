@@ -1,5 +1,5 @@
 //! The recordings that are to be sent, or the line that says why there are none.
-ghost use Rattle.bw_queue.specs.QueueOpenings.{OpensQueue, PassesKind, ReportsFault, opening_world};
+ghost use Rattle.bw_queue.specs.QueueOpenings.{OpensQueue, PassesKind, ReportsQueueFault, opening_world};
 ghost use Rattle.bw_queue.specs.Queues.{given_path};
 
 use crate::fault::QueueFault;
@@ -70,7 +70,7 @@ fn pass_kind<F: FileKinds, E: Sink>(
 
 /// Reports why recordings aren't sent. Returns how the command ends.
 fn report_fault<E: Sink>(fault: &QueueFault, faults: &mut E) -> Exit
-    ensures { ReportsFault E.Sink fault.now result faults.old faults.new }
+    ensures { ReportsQueueFault E.Sink fault.now result faults.old faults.new }
 {
     match fault {
         QueueFault::Refused(line) => {

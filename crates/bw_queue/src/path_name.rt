@@ -2,7 +2,7 @@
 ghost use Rattle.std.specs.Prelude.{◌≡◌, ◌++◌, IsTrue, IfOk, OnOk};
 ghost use Rattle.std.specs.Option.{SomeIff};
 ghost use Rattle.bw_model.specs.Wire.{is_name};
-ghost use Rattle.bw_queue.specs.PathNames.{file_part as file_of, name_byte as byte_of_name, name_made};
+ghost use Rattle.bw_queue.specs.PathNames.{file_part as file_of, byte_in_name, name_made};
 ghost use Rattle.bw_queue.specs.PathNames.{name_part, stem_part};
 
 use crate::places::last_place;
@@ -62,7 +62,7 @@ fn put_part(byte: u8, name: &mut Vec<u8>) -> Result<(), AllocError>
 
 /// The byte of a name that stands for a character that begins with this byte.
 fn name_byte(byte: u8) -> u8
-    ensures { result ≡ byte_of_name byte }
+    ensures { result ≡ byte_in_name byte }
 {
     if byte >= b'A' && byte <= b'Z' {
         byte + 32

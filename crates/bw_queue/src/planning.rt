@@ -3,7 +3,7 @@ ghost use Rattle.std.specs.Prelude.{◌≡◌, ⊤, List, MatchResult, ℕ, map,
 ghost use Rattle.bw_disk.specs.DiskSteps.{StaysWhole};
 ghost use Rattle.bw_queue.specs.KeptReceipts.{HasBadLine, SaysAllBut, ended_lines};
 ghost use Rattle.bw_queue.specs.QueueFaults.{FaultSays, no_receipt_text, unreadable_text};
-ghost use Rattle.bw_queue.specs.QueueSides.{CountsUnread, disk_reads, queue_side};
+ghost use Rattle.bw_queue.specs.QueueSides.{CountsUnreadPaths, disk_reads, queue_side};
 ghost use Rattle.bw_queue.specs.Queues.{AreNamedBy, GivesReceipts, GivesText, IsMissing, IsQueue, SaysBadReceipt};
 ghost use Rattle.bw_queue.specs.Queues.{SaysRefused, SaysUnnamed, SaysUnread, SaysUnreadable, given_path, names_path};
 
@@ -35,7 +35,7 @@ pub fn plan_queue<F: FileKinds, D: Volume>(
     files: &F,
     disk: &mut D,
 ) -> Result<Queue, QueueFault>
-    ensures counts { CountsUnread (IsMissing (disk_reads D.Disk disk.old)
+    ensures counts { CountsUnreadPaths (IsMissing (disk_reads D.Disk disk.old)
         (given_path request.now.names)) (D.failures disk.old) (D.failures disk.new) result }
     ensures disk { StaysWhole D.Disk disk.old disk.new }
     ensures plans { MatchResult result (IsQueue (queue_side F.FileKinds files.now D.Disk disk.old) request.now)
@@ -72,7 +72,7 @@ fn names_text<D: Volume>(
     disk: &mut D,
     names: Option<&str>,
 ) -> Result<Vec<u8>, QueueFault>
-    ensures counts { CountsUnread (IsMissing (disk_reads D.Disk disk.old) (given_path names.entry))
+    ensures counts { CountsUnreadPaths (IsMissing (disk_reads D.Disk disk.old) (given_path names.entry))
         (D.failures disk.old) (D.failures disk.new) result }
     ensures disk { StaysWhole D.Disk disk.old disk.new }
     ensures text { MatchResult result
@@ -98,7 +98,7 @@ fn receipts_at<D: Volume>(
     disk: &mut D,
     path: Option<&str>,
 ) -> Result<Vec<Receipt>, QueueFault>
-    ensures counts { CountsUnread ⊥ (D.failures disk.old) (D.failures disk.new) result }
+    ensures counts { CountsUnreadPaths ⊥ (D.failures disk.old) (D.failures disk.new) result }
     ensures disk { StaysWhole D.Disk disk.old disk.new }
     ensures receipts { MatchResult result
         (λ receipts. GivesReceipts (disk_reads D.Disk disk.old) (given_path path.entry) receipts.items)
@@ -134,7 +134,7 @@ fn text_at<D: Volume>(
     disk: &mut D,
     path: &str,
 ) -> Result<Option<Vec<u8>>, QueueFault>
-    ensures counts { CountsUnread ⊥ (D.failures disk.old) (D.failures disk.new) result }
+    ensures counts { CountsUnreadPaths ⊥ (D.failures disk.old) (D.failures disk.new) result }
     ensures disk { StaysWhole D.Disk disk.old disk.new }
     ensures text { MatchResult result
         (λ found. disk_reads D.Disk disk.old path.now (option_map (λ text. text.items) found))

@@ -4,8 +4,8 @@ ghost use Rattle.std.specs.List.{Any};
 ghost use Rattle.bw_model.specs.Report.{frames_of};
 ghost use Rattle.bw_stream.specs.Readers.{Of};
 ghost use Rattle.bw_report.specs.FileFindings.{IsReportIn};
-ghost use Rattle.bw_queue.specs.NamedRecordings.{path_of};
-ghost use Rattle.bw_queue.specs.StoredRecordings.{HasReceipt, IsReceiptIn, IsUnreadable};
+ghost use Rattle.bw_queue.specs.NamedRecordings.{queued_path};
+ghost use Rattle.bw_queue.specs.StoredRecordings.{HasReceipt, IsReceiptIn, IsFileUnread};
 
 use crate::recording::QueuedRecording;
 use bw_inspect::{InspectKind, Report, inspect};
@@ -33,7 +33,7 @@ pub fn has_receipt<F: RecordingFiles>(
     recording: &QueuedRecording,
 ) -> Result<bool, AllocError>
     ensures files { F.file_at files.new ≡ F.file_at files.old }
-    ensures has { IfOk result (λ has. HasReceipt (F.file_at files.old (path_of recording.now)) receipts.now
+    ensures has { IfOk result (λ has. HasReceipt (F.file_at files.old (queued_path recording.now)) receipts.now
         recording.now has (F.failures files.old) (F.failures files.new)) }
 {
     if !is_named(receipts, &recording.name) {
@@ -79,8 +79,8 @@ fn receipt_of<F: RecordingFiles>(
 ) -> Result<Option<Receipt>, AllocError>
     ensures files { F.file_at files.new ≡ F.file_at files.old }
     ensures receipt { IfOk result (λ found. MatchOption found
-        (IsUnreadable (F.file_at files.old (path_of recording.now)) (F.failures files.old) (F.failures files.new))
-        (λ receipt. Of (F.file_at files.old (path_of recording.now)) (λ b. IsReceiptIn recording.now b receipt)
+        (IsFileUnread (F.file_at files.old (queued_path recording.now)) (F.failures files.old) (F.failures files.new))
+        (λ receipt. Of (F.file_at files.old (queued_path recording.now)) (λ b. IsReceiptIn recording.now b receipt)
         × (F.failures files.new ≡ F.failures files.old))) }
 {
     let Ok(mut file) = files.open(recording.path.as_str()) else {
@@ -102,10 +102,10 @@ fn receipt_with<F: RecordingFiles>(
     report: &Report,
 ) -> Option<Receipt>
     ensures files { F.file_at files.new ≡ F.file_at files.old }
-    ensures receipt { Of (F.file_at files.old (path_of recording.now)) (λ b. IsReportIn b report.now) →
+    ensures receipt { Of (F.file_at files.old (queued_path recording.now)) (λ b. IsReportIn b report.now) →
         MatchOption result
-        (IsUnreadable (F.file_at files.old (path_of recording.now)) (F.failures files.old) (F.failures files.new))
-        (λ receipt. Of (F.file_at files.old (path_of recording.now)) (λ b. IsReceiptIn recording.now b receipt)
+        (IsFileUnread (F.file_at files.old (queued_path recording.now)) (F.failures files.old) (F.failures files.new))
+        (λ receipt. Of (F.file_at files.old (queued_path recording.now)) (λ b. IsReceiptIn recording.now b receipt)
         × (F.failures files.new ≡ F.failures files.old)) }
 {
     if report.data_size > u64::MAX - report.data_at {

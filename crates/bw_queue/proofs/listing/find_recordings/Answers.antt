@@ -2,7 +2,7 @@ use Rattle.std.proofs.Common.{◌≡◌, ◌++◌, ◌∷◌, ◌∙◌, [], Lis
 use Rattle.std.proofs.lemmas.List.{map-append}
 use Rattle.bw_disk.proofs.DiskChains.{stays_twice}
 use Rattle.bw_ports.specs.declared.file_kind.FileKind.TheVariants.{Folder}
-use Rattle.bw_queue.specs.FolderRecordings.{EachGives, ListsRecordings, SaysEmptyFolder, SaysUnlisted, StandsFor}
+use Rattle.bw_queue.specs.FolderRecordings.{EachGives, ListsRecordings, SaysEmptyFolder, SaysUnlisted, StandsForPaths}
 use Rattle.bw_queue.specs.QueueFaults.{no_recordings_text, unreadable_text}
 use Rattle.bw_queue.specs.QueueSides.{queue_side}
 use Rattle.bw_queue.proofs.ListingLemmas.{gives_more, recordings_before, stood_before}
@@ -47,14 +47,14 @@ loop-path-preserved g c =
     c.loop-path-test.true c.path-item.is c.as_str.ensures.value in
     let stands = stood_before kinds files g.D.Disk c.args.disk.now c.loop-path.disk path
     (map string_bytes c.in-Ok.own.items) i.whole c.in-Ok.ensures.found in
-    let all = gives_more (StandsFor side) (map string_bytes (take c.loop-path.path-index c.args.paths.now)) path
+    let all = gives_more (StandsForPaths side) (map string_bytes (take c.loop-path.path-index c.args.paths.now)) path
     (map string_bytes c.loop-path.found.items) (map string_bytes c.in-Ok.own.items) i.found stands in
     let items = ap (map string_bytes) c.in_default.ensures.items
     ∙ map-append string_bytes c.loop-path.found.items c.in-Ok.own.items in
     record {
       counts = c.in-Ok.ensures.counts ∙ i.counts;
       whole = stays_twice g.D.Disk c.args.disk.now c.loop-path.disk c.recordings_at.new.disk i.whole c.in-Ok.ensures.disk;
-      found = subst (λ (ps : List (List ℕ)). EachGives (StandsFor side) ps (map string_bytes c.append.new.self.items))
-          (sym more) (subst (λ (all : List (List ℕ)). EachGives (StandsFor side)
+      found = subst (λ (ps : List (List ℕ)). EachGives (StandsForPaths side) ps (map string_bytes c.append.new.self.items))
+          (sym more) (subst (λ (all : List (List ℕ)). EachGives (StandsForPaths side)
           (map string_bytes (take c.loop-path.path-index c.args.paths.now) ++ path ∷ []) all) (sym items) all);
     }

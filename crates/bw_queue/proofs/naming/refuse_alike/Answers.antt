@@ -1,7 +1,7 @@
 use Rattle.std.proofs.Common.{◌≡◌, ◌≢◌, ◌∙◌, List, ap, string_bytes, subst, sym, take, ℕ}
 use Rattle.std.specs.List.{All}
 use Rattle.std.proofs.lemmas.List.{take_all}
-use Rattle.bw_queue.specs.NamedRecordings.{AreApart, SaysAlike}
+use Rattle.bw_queue.specs.NamedRecordings.{AreNamedApart, SaysAlike}
 use Rattle.bw_queue.specs.QueueFaults.{alike_text}
 use Rattle.bw_queue.specs.declared.recording.QueuedRecording.{QueuedRecording}
 use Rattle.bw_queue.proofs.NamedLemmas.{apart_more, says_more}
@@ -31,5 +31,5 @@ loop-place-preserved c = apart_more c.args.recordings.now c.loop-place.place c.i
     (take c.loop-place.place c.args.recordings.now)) c.index-recordings-place.is c.in_default.ensures)
 
 pub returns : goal.returns
-returns c = subst AreApart (take_all c.loop-place.place c.args.recordings.now c.loop-place-test.false)
+returns c = subst AreNamedApart (take_all c.loop-place.place c.args.recordings.now c.loop-place-test.false)
     c.loop-place.invariant

@@ -1,5 +1,5 @@
 use Rattle.std.proofs.Common.{◌∙◌, Err, Ok, inr, refl, subst, sym}
-use Rattle.bw_queue.specs.QueueOpenings.{ReportsFault}
+use Rattle.bw_queue.specs.QueueOpenings.{ReportsQueueFault}
 use Rattle.bw_queue.specs.Queues.{given_path}
 use Rattle.bw_queue.proofs.OpeningLemmas.{passed_same, passed_still}
 use Rattle.bw_queue.proofs.opening.open_queue.Goals as goal
@@ -42,7 +42,7 @@ returns-in-Err-plan_queue g c =
         ends = (
           c.report_fault.result,
           refl,
-          subst (λ e. ReportsFault g.E.Sink c.in-Err-plan_queue.fault
+          subst (λ e. ReportsQueueFault g.E.Sink c.in-Err-plan_queue.fault
               c.report_fault.result e c.report_fault.new.faults) same c.report_fault.ensures,
         );
       },

@@ -1,7 +1,7 @@
 use Rattle.std.proofs.Common.{◌≡◌, ◌∙◌, List, ap, inl, inr, map, string_bytes, subst, ℕ}
 use Rattle.std.specs.Borrow.{Bor}
 use Rattle.bw_queue.specs.NamedRecordings.{AreNamed, SaysAlike, SaysNameless}
-use Rattle.bw_queue.specs.Namings.{IsFirstBadLine}
+use Rattle.bw_queue.specs.Namings.{IsFirstBadNaming}
 use Rattle.bw_queue.specs.QueueFaults.{bad_naming_text}
 use Rattle.bw_queue.specs.Queues.{SaysUnnamed, given_path, names_path}
 use Rattle.bw_queue.specs.declared.recording.QueuedRecording.{QueuedRecording}
@@ -17,7 +17,7 @@ returns-in-Some c =
     (SaysUnnamed (names_path (given_path c.args.names)) c.args.text.now paths) (λ line. ⊥)
     (λ line is. inl (
       c.in-Some.number,
-      subst (λ (ls : List (List ℕ)). IsFirstBadLine ls c.in-Some.number) same c.in-Some.ensures,
+      subst (λ (ls : List (List ℕ)). IsFirstBadNaming ls c.in-Some.number) same c.in-Some.ensures,
       is ∙ ap (λ (p : List ℕ). bad_naming_text p c.in-Some.number) c.path_or_empty.ensures,
     )) (λ line says. says) c.bad_naming.result c.bad_naming.ensures
 

@@ -1,6 +1,6 @@
 use Rattle.std.proofs.Common.{List, inl, inr, map, string_bytes, subst, sym, ℕ, String, Global}
 use Rattle.bw_disk.proofs.DiskChains.{stays_twice}
-use Rattle.bw_queue.specs.FolderRecordings.{EachGives, SaysEmptyFolder, SaysUnlisted, StandsFor}
+use Rattle.bw_queue.specs.FolderRecordings.{EachGives, SaysEmptyFolder, SaysUnlisted, StandsForPaths}
 use Rattle.bw_queue.specs.QueueSides.{queue_side}
 use Rattle.bw_queue.specs.Queues.{AreNamedBy, SaysRefused, SaysUnnamed, SaysUnread, given_path, names_path}
 use Rattle.bw_queue.proofs.NamedLemmas.{says_more}

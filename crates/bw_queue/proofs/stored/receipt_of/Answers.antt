@@ -1,11 +1,11 @@
 use Rattle.std.proofs.Common.{◌∙◌, List, Option, ap, inr, sym, ℕ}
-use Rattle.bw_queue.specs.NamedRecordings.{path_of}
+use Rattle.bw_queue.specs.NamedRecordings.{queued_path}
 use Rattle.bw_queue.proofs.StoredLemmas.{found_after}
 use Rattle.bw_queue.proofs.stored.receipt_of.Goals as goal
 
 pub returns-in-Ok-inspect-clause-receipt : goal.returns-in-Ok-inspect-clause-receipt
 returns-in-Ok-inspect-clause-receipt g c =
-    let path = path_of c.args.recording.now in
+    let path = queued_path c.args.recording.now in
     let same = ap (λ (f : List ℕ → Option (List ℕ)). f path) c.in-Ok.ensures.files in
     found_after _ _ _ _ _ c.receipt_with.result c.args.recording.now same c.in-Ok.ensures.count
     (c.receipt_with.ensures.receipt (λ b e.
