@@ -14,6 +14,7 @@ import time
 
 sys.dont_write_bytecode = True  # nothing is left beside this script
 from cases import inspections as cases_of_inspections
+from cases import ixml
 from cases.recordings import PLAIN, SENT, TEXTS
 from kit.hints import hinted
 from kit.network import reason, run, run_cases, TALLY
@@ -79,6 +80,11 @@ SPEAKING = [
     ("a list of more than is read", riff(fmt(PLAIN), LENGTHY, data(b""))),
     ("a history of more than is read", riff(fmt(PLAIN), bext(history=b"A=PCM\r\n" * 10_000), data(b""))),
     ("a history with a zero byte", riff(fmt(PLAIN), bext(history=b"A=PCM\r\n\0rest"), data(b""))),
+    *((f"iXML, {of}", riff(fmt(PLAIN), chunk(b"iXML", document), data(b""))) for of, document in ixml.DOCUMENTS),
+    *((f"iXML, {of}", riff(fmt(PLAIN), chunk(b"iXML", document), data(b""))) for of, document in ixml.NO_DOCUMENTS),
+    *((f"iXML, {of}", riff(fmt(PLAIN), chunk(b"iXML", document), data(b""))) for of, _, document in ixml.UNREAD),
+    ("iXML of more than is read", riff(fmt(PLAIN), chunk(b"iXML", ixml.CUT), data(b""))),
+    ("other chunks of XML", riff(fmt(PLAIN), chunk(b"axml", b"<a>"), chunk(b"aXML", bytes(70_000)), chunk(b"_PMX", b"<a/>"), data(b""))),
     ("more chunks than are looked at", riff(fmt(PLAIN), data(b""), *[chunk(b"LIST", b"INFO" + INFO)] * 64)),
 ]
 READABLE = [
@@ -292,6 +298,26 @@ def case_contents(folder):
     TALLY.same("--json, a pipe", (status, objects(out)[0]["contents"], faults), (0, None, ""))
 
 
+def lines_of_ixml(folder, document):
+    """The lines after the chunks' own with --human, and the status, of a file with this `iXML`."""
+    path = written(folder, riff(fmt(PLAIN), chunk(b"iXML", document), data(b"")), "a.wav")
+    status, out, faults = run("inspect", "--human", path)
+    lines = out.splitlines()
+    return status, tuple(lines[lines.index("tag WAVE_FORMAT_PCM") + 1 :]), faults
+
+
+def case_ixml(folder):
+    """Worked `iXML` is lines; one that isn't read or isn't well-formed is a line, and no fault of the file."""
+    for of, document, wanted in (
+        ("as Sound Devices", ixml.INDENTED, ixml.INDENTED_LINES),
+        ("as Zoom", ixml.PADDED, ixml.PADDED_LINES),
+        ("of more than is read", ixml.CUT, ("cut iXML after 65536 bytes",)),
+        *((of, document, ("malformed iXML not well-formed",)) for of, document in ixml.NO_DOCUMENTS),
+        *((of, document, (f"unread iXML {why}",)) for of, why, document in ixml.UNREAD),
+    ):
+        TALLY.same(f"--human, iXML {of}", lines_of_ixml(folder, document), (0, wanted, ""))
+
+
 def case_input(folder):
     """Standard input has the same report as a file with its bytes, but for contents."""
     for of, file in READABLE:
@@ -403,6 +429,7 @@ CASES = [
     case_human_values,
     case_human_several,
     case_contents,
+    case_ixml,
     case_input,
     case_names,
     case_keys,

@@ -1,6 +1,7 @@
 """What `inspect --json` prints of a WAVE file, as a reader of its own finds it (docs/FORMATS.md, BS.2088, Tech 3306)."""
 import hashlib
 import uuid
+from xml.parsers import expat
 
 NOT_GIVEN = 0x7FFF
 UNSAID = 0xFFFFFFFF
@@ -9,6 +10,9 @@ LEVELS = ("value", "range", "peak", "momentary", "short")
 KEYS = ("at", "bext", "chunks", "contents", "cues", "data", "fault", "file", "fmt", "form", "form_hex", "ok", "sha256", "size")
 TAGS = {1: "PCM", 3: "IEEE_FLOAT", 6: "ALAW", 7: "MULAW", 0xFFFE: "EXTENSIBLE"}
 SPEAKERS = "FL FR FC LFE BL BR FLC FRC BC SL SR TC TFL TFC TFR TBL TBC TBR".split()
+IXML_TEXTS = {"PROJECT": "project", "SCENE": "scene", "TAKE": "take", "TAPE": "tape", "NOTE": "ixml-note"}
+TRACK_TEXTS = (("NAME", "track"), ("FUNCTION", "function"), ("CHANNEL_INDEX", "channel"))
+NAMED = ("info", "cut", "malformed", "unread", "xml")  # what is printed with the id of its chunk
 MOST_CHUNKS, MOST_BYTES = 64, 65_536  # of a file, of a chunk: what is read of contents
 
 
@@ -125,6 +129,62 @@ def list_said(content):
         at += 8 + size + size % 2
 
 
+def elements_of(document):
+    """The path and the text of each element of a document, as it ends."""
+    path, text, found = [], [], []
+
+    def start(name, _attributes):
+        path.append(name)
+        text.clear()
+
+    def end(_name):
+        found.append(("/".join(path), "".join(text).strip(" \t\r\n")))
+        path.pop()
+        text.clear()
+
+    parser = expat.ParserCreate("UTF-8")
+    parser.StartElementHandler, parser.EndElementHandler, parser.CharacterDataHandler = start, end, text.append
+    parser.Parse(document, True)
+    return found
+
+
+def index_of(digits):
+    return int(digits) if digits.isascii() and digits.isdigit() and int(digits) < 1 << 32 else None
+
+
+def ixml_said(content, unread=None):
+    """The texts of an `iXML` document, or why it isn't read, or that it isn't well-formed."""
+    if unread:
+        yield said("unread", b"iXML", unread.encode())
+        return
+    try:
+        elements = elements_of(content.split(b"\0")[0])
+    except expat.ExpatError:
+        yield said("malformed", b"iXML", b"not well-formed")
+        return
+    track = {}
+    for path, text in elements:
+        *above, name = path.split("/")
+        if path == "BWFXML/TRACK_LIST/TRACK":
+            indices = (index_of(track.get(key, "")) for key in ("INTERLEAVE_INDEX", "CHANNEL_INDEX"))
+            index = next((it for it in indices if it is not None), None)
+            yield from (said(kind, b"iXML", track[key].encode(), index) for key, kind in TRACK_TEXTS if track.get(key))
+            track = {}
+        elif above == ["BWFXML", "TRACK_LIST", "TRACK"]:
+            track[name] = text
+        elif above == ["BWFXML"] and name in IXML_TEXTS and text:
+            yield said(IXML_TEXTS[name], b"iXML", text.encode())
+
+
+def why_unread(content):
+    """Why an `iXML` document isn't read."""
+    if content[:2] in (b"\xff\xfe", b"\xfe\xff", b"<\0", b"\0<"):
+        return "UTF-16"
+    if text_of(content.split(b"\0")[0]) is None:
+        return "not UTF-8"
+    return "document type declaration" if b"<!DOCTYPE" in content else None
+
+
 def contents_of(file, chunks):
     """What the chunks say beside the report."""
     found = []
@@ -136,7 +196,11 @@ def contents_of(file, chunks):
             found.append(said("history", name, content[602:]))
         elif name == b"LIST":
             found.extend(list_said(content))
-        if name in (b"fmt ", b"bext", b"LIST") and size > MOST_BYTES:
+        elif name == b"iXML" and (size <= MOST_BYTES or b"\0" in content):
+            found.extend(ixml_said(content, why_unread(content)))
+        elif name in (b"axml", b"aXML"):
+            found.append(said("xml", name, f"{size} bytes".encode()))
+        if name in (b"fmt ", b"bext", b"LIST", b"iXML") and size > MOST_BYTES:
             found.append(said("cut", name, b"after 65536 bytes"))
     return found
 
@@ -226,7 +290,7 @@ def human(found):
     lines.extend([f"sha256={found['sha256']}"] if found["sha256"] else [])
     for one in found["contents"] or []:
         detail = f" {one['point']}" if one["point"] is not None else ""
-        detail = f" {visible(one['id_hex'])}" if one["kind"] in ("info", "cut") else detail
+        detail = f" {visible(one['id_hex'])}" if one["kind"] in NAMED else detail
         lines.extend([f"{one['kind']}{detail} {shown(bytes.fromhex(one['text_hex']))}"] if one["text_hex"] else [])
     return "".join(line + "\n" for line in lines)
 

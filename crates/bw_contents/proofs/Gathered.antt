@@ -1,12 +1,13 @@
 -- Chunks that are read one after another.
 use Rattle.std.proofs.Common.{◌≡◌, ◌∙◌, ℕ, ◌+◌, ◌<◌, List, [], ◌∷◌, ◌++◌, length, take, drop, get_or, min, Option, Some}
-use Rattle.std.proofs.Common.{Bool, true, refl, ap, arith, sym}
+use Rattle.std.proofs.Common.{Bool, false, true, refl, ap, arith, sym}
 use Rattle.std.specs.Prelude.{flat_map, slice_range}
 use Rattle.std.proofs.Math.Seq.{take-append_seam}
 use Rattle.bw_model.specs.Reading.{Entry}
 use Rattle.bw_inspect.specs.Places.{IsGiven}
 use Rattle.bw_contents.specs.Texts.{Said}
 use Rattle.bw_contents.specs.Contents.{bytes_read, chunk_says, content_says, cut_says, is_looked_into}
+use Rattle.bw_contents.specs.XmlChunks.{is_other_xml}
 use Rattle.std.proofs.lemmas.List.{append-nil, take_more}
 use Rattle.std.proofs.lemmas.Grind.{flat_map-append}
 
@@ -33,13 +34,15 @@ chunk_bytes b got rest e p len m left at is same full given =
     )
 
 -- what a chunk says that is looked into, after what was read of it was appended
-pub chunk_said : (b bytes : List ℕ) (e : Entry) (id : List ℕ) (looked : Bool) (p len n : ℕ) (old new : List Said)
+pub chunk_said : (b bytes : List ℕ) (e : Entry) (id : List ℕ) (other looked : Bool) (p len n : ℕ) (old new : List Said)
     {left : Option (List ℕ)}
-    → id ≡ e.id → looked ≡ is_looked_into id → looked ≡ true → p ≡ e.place → n ≡ len → bytes ≡ bytes_read b e
-    → left ≡ Some (drop (e.place + 8 + len) b) → new ≡ old ++ (content_says e.id bytes ++ cut_says e)
+    → id ≡ e.id → other ≡ is_other_xml id → other ≡ false
+    → looked ≡ is_looked_into id → looked ≡ true → p ≡ e.place → n ≡ len → bytes ≡ bytes_read b e
+    → left ≡ Some (drop (e.place + 8 + len) b) → new ≡ old ++ (content_says e bytes ++ cut_says e)
     → (left ≡ Some (drop (p + 8 + n) b)) × (new ≡ old ++ chunk_says b e)
-chunk_said b bytes e id looked p len n old new same test holds at size read rest put =
+chunk_said b bytes e id other looked p len n old new same apart isnt test holds at size read rest put =
+    let listed : is_other_xml e.id ≡ false = ap is_other_xml (sym same) ∙ sym apart ∙ isnt in
     let into : is_looked_into e.id ≡ true = ap is_looked_into (sym same) ∙ sym test ∙ holds in (
       rw (at, size) rest,
-      put ∙ rw (read, into) refl,
+      put ∙ rw (read, listed, into) refl,
     )

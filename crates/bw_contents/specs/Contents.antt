@@ -5,6 +5,7 @@ use Rattle.bw_model.specs.Reading.{Entry, is_id}
 use Rattle.bw_contents.specs.Texts.{Said, one_said}
 use Rattle.bw_contents.specs.Formats.{format_says}
 use Rattle.bw_contents.specs.Lists.{list_says}
+use Rattle.bw_contents.specs.XmlChunks.{is_other_xml, ixml_says, xml_size_says}
 use Rattle.bw_contents.specs.declared.content.Kind.TheVariants.{History, Cut}
 
 -- how many bytes of a chunk are read
@@ -21,13 +22,15 @@ history_says c = if nat_lt 602 (length c) then one_said History (drop 602 c) els
 
 -- whether chunks with this id are read
 abbrev pub is_looked_into : List ℕ → Bool
-is_looked_into id = is_id id (codes "fmt ") || (is_id id (codes "bext") || is_id id (codes "LIST"))
+is_looked_into id = is_id id (codes "fmt ")
+    || (is_id id (codes "bext") || (is_id id (codes "iXML") || is_id id (codes "LIST")))
 
--- what a chunk with this id and content says
-abbrev pub content_says : List ℕ → List ℕ → List Said
-content_says id c =
-    if is_id id (codes "fmt ") then format_says c
-    else if is_id id (codes "bext") then history_says c
+-- what a chunk says whose content begins so
+abbrev pub content_says : Entry → List ℕ → List Said
+content_says e c =
+    if is_id e.id (codes "fmt ") then format_says c
+    else if is_id e.id (codes "bext") then history_says c
+    else if is_id e.id (codes "iXML") then ixml_says (nat_lt most_chunk_bytes e.size) c
     else list_says c
 
 -- whether there is more of a chunk than is read
@@ -40,7 +43,10 @@ bytes_read b e = slice_range b (e.place + 8) (e.place + 8 + min e.size most_chun
 
 -- what a chunk of b says
 abbrev pub chunk_says : List ℕ → Entry → List Said
-chunk_says b e = if is_looked_into e.id then content_says e.id (bytes_read b e) ++ cut_says e else []
+chunk_says b e =
+    if is_other_xml e.id then xml_size_says e.id e.size
+    else if is_looked_into e.id then content_says e (bytes_read b e) ++ cut_says e
+    else []
 
 -- what the chunks of b say, in their order
 abbrev pub chunks_say : List ℕ → List Entry → List Said

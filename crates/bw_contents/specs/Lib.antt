@@ -1,4 +1,10 @@
 pub mod Texts
 pub mod Formats
 pub mod Lists
+pub mod Markup
+pub mod Pieces
+pub mod Ixml
+pub mod Documents
+pub mod XmlChunks
 pub mod Contents
+pub mod ExamplesOfIxml

@@ -25,6 +25,29 @@ pub enum Kind {
     Note { point: u32 },
     /// How many bytes of a chunk with this id were read, which has more.
     Cut { id: ChunkId },
+    /// The project of an `iXML` chunk.
+    Project,
+    /// The scene or slate of an `iXML` chunk.
+    Scene,
+    /// The take's number of an `iXML` chunk.
+    Take,
+    /// The sound roll of an `iXML` chunk.
+    Tape,
+    /// The note of an `iXML` chunk.
+    IxmlNote,
+    /// The name of a track of an `iXML` chunk, with the track's interleave index, or else its
+    /// channel index, if one is a number below 2^32.
+    Track { index: Option<u32> },
+    /// The function of a track.
+    Function { index: Option<u32> },
+    /// The channel index of a track.
+    Channel { index: Option<u32> },
+    /// A chunk with this id should be an XML document, and isn't well-formed.
+    Malformed { id: ChunkId },
+    /// Why the XML of a chunk with this id isn't read.
+    Unread { id: ChunkId },
+    /// How many bytes of XML a chunk with this id has, which isn't looked into.
+    Xml { id: ChunkId },
 }
 
 impl Kind {
@@ -41,6 +64,17 @@ impl Kind {
             Kind::Label { point: _ } => "label",
             Kind::Note { point: _ } => "note",
             Kind::Cut { id: _ } => "cut",
+            Kind::Project => "project",
+            Kind::Scene => "scene",
+            Kind::Take => "take",
+            Kind::Tape => "tape",
+            Kind::IxmlNote => "ixml-note",
+            Kind::Track { index: _ } => "track",
+            Kind::Function { index: _ } => "function",
+            Kind::Channel { index: _ } => "channel",
+            Kind::Malformed { id: _ } => "malformed",
+            Kind::Unread { id: _ } => "unread",
+            Kind::Xml { id: _ } => "xml",
         }
     }
 
@@ -57,10 +91,21 @@ impl Kind {
             Kind::Label { point: _ } => ChunkId(*b"labl"),
             Kind::Note { point: _ } => ChunkId(*b"note"),
             Kind::Cut { id } => id,
+            Kind::Project => ChunkId(*b"iXML"),
+            Kind::Scene => ChunkId(*b"iXML"),
+            Kind::Take => ChunkId(*b"iXML"),
+            Kind::Tape => ChunkId(*b"iXML"),
+            Kind::IxmlNote => ChunkId(*b"iXML"),
+            Kind::Track { index: _ } => ChunkId(*b"iXML"),
+            Kind::Function { index: _ } => ChunkId(*b"iXML"),
+            Kind::Channel { index: _ } => ChunkId(*b"iXML"),
+            Kind::Malformed { id } => id,
+            Kind::Unread { id } => id,
+            Kind::Xml { id } => id,
         }
     }
 
-    /// The identifier of the cue point that it is about.
+    /// The identifier of the cue point, or the index of the track, that it is about.
     pub fn point(self) -> Option<u32>
         ensures { result ≡ kind_point self }
     {
@@ -73,6 +118,17 @@ impl Kind {
             Kind::Label { point } => Some(point),
             Kind::Note { point } => Some(point),
             Kind::Cut { id: _ } => None,
+            Kind::Project => None,
+            Kind::Scene => None,
+            Kind::Take => None,
+            Kind::Tape => None,
+            Kind::IxmlNote => None,
+            Kind::Track { index } => index,
+            Kind::Function { index } => index,
+            Kind::Channel { index } => index,
+            Kind::Malformed { id: _ } => None,
+            Kind::Unread { id: _ } => None,
+            Kind::Xml { id: _ } => None,
         }
     }
 }

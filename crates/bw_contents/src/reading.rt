@@ -4,10 +4,12 @@ ghost use Rattle.bw_stream.specs.Readers.{Of};
 ghost use Rattle.bw_inspect.specs.Places.{AtPlace};
 ghost use Rattle.bw_contents.specs.Contents.{bytes_read, chunk_says, chunks_say, content_says, cut_says};
 ghost use Rattle.bw_contents.specs.Contents.{history_says, is_looked_into, most_chunks_read};
+ghost use Rattle.bw_contents.specs.XmlChunks.{xml_size_says};
 
 use crate::content::{ChunkText, Contents, Kind, put_text};
 use crate::format::put_format;
 use crate::list::put_list;
+use crate::xml::{is_other_xml, put_ixml, put_xml_size};
 use bw_inspect::{InspectFault, InspectKind, ListedChunk, read_at, skip_at};
 use bw_layout::ChunkId;
 use bw_stream::Source;
@@ -70,12 +72,34 @@ fn read_chunk<R: Source>(
         (R.left reader.new ≡ Some (drop next b))
         × (contents.new.items ≡ contents.old.items ++ chunk_says b chunk.now))) }
 {
+    if is_other_xml(chunk.id) {
+        return put_size(alloc, place, chunk, contents);
+    }
     if !is_looked_into(chunk.id) {
         return Ok(place);
     }
     let bytes = read_bytes(alloc, reader, place, chunk)?;
     match put_chunk(alloc, contents, chunk, bytes.as_slice()) {
         Ok(()) => Ok(chunk.place + 8 + bytes.len() as u64),
+        Err(_) => Err(fault_at(InspectKind::Memory, chunk)),
+    }
+}
+
+/// Appends the size of a chunk of XML. Returns the place, where the reader still is.
+///
+/// # Errors
+/// Memory.
+fn put_size(
+    alloc: Global,
+    place: u64,
+    chunk: &ListedChunk,
+    contents: &mut Vec<ChunkText>,
+) -> Result<u64, InspectFault>
+    ensures { IfOk result (λ next. (next ≡ place)
+        × (contents.new.items ≡ contents.old.items ++ xml_size_says chunk.now.id chunk.now.size)) }
+{
+    match put_xml_size(alloc, contents, chunk.id, chunk.size) {
+        Ok(()) => Ok(place),
         Err(_) => Err(fault_at(InspectKind::Memory, chunk)),
     }
 }
@@ -126,9 +150,9 @@ fn put_chunk(
     bytes: &[u8],
 ) -> Result<(), AllocError>
     ensures { OnOk result (contents.new.items
-        ≡ contents.old.items ++ (content_says chunk.now.id bytes.now ++ cut_says chunk.now)) }
+        ≡ contents.old.items ++ (content_says chunk.now bytes.now ++ cut_says chunk.now)) }
 {
-    put_content(alloc, contents, chunk.id, bytes)?;
+    put_content(alloc, contents, chunk, bytes)?;
     put_cut(alloc, contents, chunk)?;
     Ok(())
 }
@@ -153,19 +177,23 @@ fn put_cut(
     }
 }
 
-/// Appends what a chunk with this id and content says.
+/// Appends what a chunk says whose content begins so.
 fn put_content(
     alloc: Global,
     contents: &mut Vec<ChunkText>,
-    id: ChunkId,
+    chunk: &ListedChunk,
     bytes: &[u8],
 ) -> Result<(), AllocError>
-    ensures { OnOk result (contents.new.items ≡ contents.old.items ++ content_says id bytes.now) }
+    ensures { OnOk result (contents.new.items
+        ≡ contents.old.items ++ content_says chunk.now bytes.now) }
 {
+    let id = chunk.id;
     if id.0 == *b"fmt " {
         put_format(alloc, contents, bytes)
     } else if id.0 == *b"bext" {
         put_history(alloc, contents, bytes)
+    } else if id.0 == *b"iXML" {
+        put_ixml(alloc, contents, chunk.size > MOST_BYTES, bytes)
     } else {
         put_list(alloc, contents, bytes)
     }
@@ -186,5 +214,5 @@ fn put_history(alloc: Global, contents: &mut Vec<ChunkText>, bytes: &[u8]) -> Re
 fn is_looked_into(id: ChunkId) -> bool
     ensures { result ≡ is_looked_into id }
 {
-    id.0 == *b"fmt " || (id.0 == *b"bext" || id.0 == *b"LIST")
+    id.0 == *b"fmt " || (id.0 == *b"bext" || (id.0 == *b"iXML" || id.0 == *b"LIST"))
 }

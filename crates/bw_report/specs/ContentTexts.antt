@@ -8,7 +8,9 @@ use Rattle.bw_console.specs.Text.{as_line}
 use Rattle.bw_contents.specs.Texts.{Said, kind_id, kind_name, kind_point}
 use Rattle.bw_contents.specs.declared.content.Kind.{Kind}
 use Rattle.bw_contents.specs.declared.content.Kind.TheVariants.{Tag, Speakers, Subformat, History, Info}
-use Rattle.bw_contents.specs.declared.content.Kind.TheVariants.{Label, Note, Cut}
+use Rattle.bw_contents.specs.declared.content.Kind.TheVariants.{Label, Note, Cut, Project, Scene, Take, Tape}
+use Rattle.bw_contents.specs.declared.content.Kind.TheVariants.{IxmlNote, Track, Function, Channel}
+use Rattle.bw_contents.specs.declared.content.Kind.TheVariants.{Malformed, Unread, Xml}
 use Rattle.bw_report.specs.ShownTexts.{shown_text}
 use Rattle.bw_report.specs.Values.{hex_data, number_or_null, text_data, with_text}
 
@@ -24,7 +26,12 @@ id_text id = codes " " ++ map id_byte id
 abbrev pub point_text : ℕ → List ℕ
 point_text point = codes " " ++ decimal point
 
--- of what a text is: an id or a cue point, where there are several
+-- the index of a track after a space, if it has one
+abbrev pub index_text : Option ℕ → List ℕ
+index_text None = []
+index_text (Some index) = point_text index
+
+-- of what a text is: an id, a cue point or a track, where there are several
 abbrev pub kind_detail : Kind → List ℕ
 kind_detail Tag = []
 kind_detail Speakers = []
@@ -34,6 +41,17 @@ kind_detail (Info id) = id_text id
 kind_detail (Label point) = point_text point
 kind_detail (Note point) = point_text point
 kind_detail (Cut id) = id_text id
+kind_detail Project = []
+kind_detail Scene = []
+kind_detail Take = []
+kind_detail Tape = []
+kind_detail IxmlNote = []
+kind_detail (Track index) = index_text index
+kind_detail (Function index) = index_text index
+kind_detail (Channel index) = index_text index
+kind_detail (Malformed id) = id_text id
+kind_detail (Unread id) = id_text id
+kind_detail (Xml id) = id_text id
 
 -- what a text is
 abbrev pub said_kind : Kind → List ℕ

@@ -2,8 +2,9 @@
 ghost use Rattle.std.specs.Prelude.{◌≡◌, ◌++◌, flat_map, map, IfOk, OnOk};
 ghost use Rattle.serde_json.specs.Data.{array};
 ghost use Rattle.serde_json.specs.View.{items_of, members_view, view};
-ghost use Rattle.bw_report.specs.ContentTexts.{content_line, contents_lines, contents_or_null, id_text, kind_detail};
-ghost use Rattle.bw_report.specs.ContentTexts.{said_kind, point_text, said_data, said_line, with_kind, with_said};
+ghost use Rattle.bw_report.specs.ContentTexts.{content_line, contents_lines, contents_or_null, id_text};
+ghost use Rattle.bw_report.specs.ContentTexts.{index_text, kind_detail, said_kind, point_text, said_data};
+ghost use Rattle.bw_report.specs.ContentTexts.{said_line, with_kind, with_said};
 ghost use Rattle.bw_contents.specs.Texts.{kind_point};
 ghost use Rattle.bw_report.specs.Values.{number_or_null};
 
@@ -86,6 +87,17 @@ fn put_detail(text: &mut Vec<u8>, kind: &Kind) -> Result<(), AllocError>
         Kind::Label { point } => put_point(text, *point),
         Kind::Note { point } => put_point(text, *point),
         Kind::Cut { id } => put_id(text, id),
+        Kind::Project => Ok(()),
+        Kind::Scene => Ok(()),
+        Kind::Take => Ok(()),
+        Kind::Tape => Ok(()),
+        Kind::IxmlNote => Ok(()),
+        Kind::Track { index } => put_index(text, index),
+        Kind::Function { index } => put_index(text, index),
+        Kind::Channel { index } => put_index(text, index),
+        Kind::Malformed { id } => put_id(text, id),
+        Kind::Unread { id } => put_id(text, id),
+        Kind::Xml { id } => put_id(text, id),
     }
 }
 
@@ -101,6 +113,16 @@ fn put_point(text: &mut Vec<u8>, point: u32) -> Result<(), AllocError>
 {
     text.extend_from_slice(b" ")?;
     put_number(text, point.into())
+}
+
+/// Appends the index of a track, if it has one.
+fn put_index(text: &mut Vec<u8>, index: &Option<u32>) -> Result<(), AllocError>
+    ensures { OnOk result (text.new.items ≡ text.old.items ++ index_text index.now) }
+{
+    match index {
+        Some(index) => put_point(text, *index),
+        None => Ok(()),
+    }
 }
 
 /// What the chunks say, in their order, or null.
@@ -165,7 +187,7 @@ fn put_kind_members(
     put(members, alloc, "id", text_value(alloc, &id.0)?)
 }
 
-/// The cue point that a text is about, or null.
+/// The cue point or the track that a text is about, or null.
 fn point_value(kind: Kind) -> Value
     ensures { view result ≡ number_or_null (kind_point kind) }
 {

@@ -3,4 +3,4 @@ use Rattle.bw_contents.proofs.reading.put_chunk.Goals as goal
 
 pub returns : goal.returns
 returns c =
-    rw (c.in_ok-put_cut.ensures, c.in_ok-put_content.ensures, ← c.chunk.view_is) (simp append_assoc refl)
+    rw (c.in_ok-put_cut.ensures, c.in_ok-put_content.ensures) (simp append_assoc refl)
