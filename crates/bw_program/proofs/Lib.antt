@@ -6,3 +6,4 @@ mod RequestLemmas
 mod LeftOutLemmas
 mod ReceiptLemmas
 mod ServingLemmas
+mod SeveralLemmas

@@ -31,7 +31,7 @@ use Rattle.bw_console.specs.declared.exit.Exit.{Exit}
 use Rattle.bw_console.specs.declared.exit.Exit.TheVariants as exits
 use Rattle.bw_console.specs.Text.{as_line}
 use Rattle.bw_console.specs.declared.fault.Fault.{Fault}
-use Rattle.bw_console.specs.declared.fault.Fault.TheVariants as faults
+use Rattle.bw_console.specs.declared.fault.Fault.TheVariants as console_faults
 use Rattle.bw_delivery.specs.Chosen.{IsChosenRehearsal}
 use Rattle.bw_ports.specs.declared.network.Network.{Ghosts as NetworkGhosts}
 use Rattle.bw_ports.specs.declared.listener_setup.ListenerSetup.{Ghosts as ListenerSetupGhosts}
@@ -222,7 +222,7 @@ module _ {S T F H G M SB SL KP RC Ed LK DK DF N X Z P R W L K SP SK D A B U J Q 
   pub record GivesUpOne (exit : Exit) (x x' : ProgramWorld S F DK N Q I O E) : Type 0 where
     pub ends : exit ≡ exits.Memory
     pub faults : E
-    pub reports : ReportsLine host.reported (as_line (input_fault_text faults.Memory)) x.faults faults
+    pub reports : ReportsLine host.reported (as_line (input_fault_text console_faults.Memory)) x.faults faults
     pub alone : x' ≡ record x { faults = faults }
 
   -- it was sent as for a command line for it alone, after its line was printed or couldn't be; refused memory

@@ -83,8 +83,8 @@ fn send_each<X: Environment>(
     let receipts = queue.receipts.as_slice();
     for recording in &queue.recordings {
         let exit = send_one(alloc, several, receipts, recording, outside, observers);
-        if exit == Exit::Memory {
-            return exit;
+        if let Exit::Memory = exit {
+            return Exit::Memory;
         }
         worst = worse(worst, exit);
     }
@@ -127,17 +127,16 @@ fn send_named<X: Environment>(
     let Ok(sender) = sender_of(alloc, several, recording) else {
         return give_up(&mut outside.faults, &Fault::Memory);
     };
-    let said = say_line(
+    match say_line(
         alloc,
         "sending",
         recording,
         &mut outside.out,
         &mut outside.faults,
-    );
-    if said == Exit::Memory {
-        return said;
+    ) {
+        Exit::Memory => Exit::Memory,
+        said => worse(said, send_file_asked(alloc, &sender, outside, observers)),
     }
-    worse(said, send_file_asked(alloc, &sender, outside, observers))
 }
 
 /// Prints the line that names a recording, after a word.

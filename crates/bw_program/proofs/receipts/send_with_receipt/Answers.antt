@@ -1,8 +1,8 @@
-use Rattle.std.proofs.Common.{◌≡◌, inl, inr, refl, rules, sym, true}
+use Rattle.std.proofs.Common.{◌≡◌, Ok, inl, inr, refl, rules, sym, true}
 use Rattle.std.specs.Net.Text.{socket_text}
 use Rattle.bw_console.specs.Prints.{Nothing}
 use Rattle.bw_console.specs.declared.exit.Exit.TheVariants as exits
-use Rattle.bw_program.proofs.ReceiptLemmas.{puts-unless-done}
+use Rattle.bw_program.proofs.ReceiptLemmas.{begins-at, puts-unless-done}
 use Rattle.bw_program.proofs.receipts.send_with_receipt.Goals as goal
 
 pub returns-in_default : goal.returns-in_default
@@ -47,7 +47,10 @@ returns-in-Done g c =
         kept = c.receipts-receipts.ensures;
         begun = c.begin_receipts.new.receipts;
         faults = c.begin_receipts.new.faults;
-        begins = rw c.as_str-to.ensures.value at c.in_default-begin_receipts.ensures;
+        file = c.in-Ok-begin_receipts.file;
+        begins = begins-at g.X.Files.Receipts.ReceiptFiles g.X.Diagnostics.Sink _ _ (Ok c.in-Ok-begin_receipts.file)
+            c.receipts-receipts.result c.begin_receipts.new.receipts c.args.outside.now.faults
+            c.begin_receipts.new.faults c.as_str-to.ensures.value c.in-Ok-begin_receipts.ensures;
         sent = exits.Done;
         between = record {
           files = c.send_file_there.new.outside.files;
@@ -79,7 +82,10 @@ returns g c =
         kept = c.receipts-receipts.ensures;
         begun = c.begin_receipts.new.receipts;
         faults = c.begin_receipts.new.faults;
-        begins = rw c.as_str-to.ensures.value at c.in_default-begin_receipts.ensures;
+        file = c.in-Ok-begin_receipts.file;
+        begins = begins-at g.X.Files.Receipts.ReceiptFiles g.X.Diagnostics.Sink _ _ (Ok c.in-Ok-begin_receipts.file)
+            c.receipts-receipts.result c.begin_receipts.new.receipts c.args.outside.now.faults
+            c.begin_receipts.new.faults c.as_str-to.ensures.value c.in-Ok-begin_receipts.ensures;
         sent = c.send_file_there.result;
         between = record {
           files = c.send_file_there.new.outside.files;
@@ -89,7 +95,7 @@ returns g c =
         };
         sends_it = sent.sent;
         left = c.begin_receipts.new.receipts;
-        puts = puts-unless-done _ _ _ _ _ _ c.send_file_there.result _ _
+        puts = puts-unless-done _ _ _ _ _ _ _ c.send_file_there.result _ _
             c.in_default-send_file_there.not-Done;
       }));
       well = sent.well;
