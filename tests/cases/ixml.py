@@ -1,6 +1,6 @@
 """Worked iXML documents, after the examples of the iXML specification 2.10, and bytes that are no document."""
 
-# As recorders of Sound Devices write it: a line for each element, a user's note in SPEED too, and more than is read.
+# As recorders of Sound Devices write it: a line for each element, with a note of SPEED and others that aren't read.
 INDENTED = b"""<?xml version="1.0" encoding="UTF-8"?>
 <BWFXML>
   <IXML_VERSION>2.10</IXML_VERSION>
@@ -46,7 +46,7 @@ INDENTED_LINES = (
     "channel 2 4",
 )
 
-# As recorders of Zoom write it: one line, empty elements, tracks without a function, and zero bytes after it.
+# As recorders of Zoom write it: one line, empty elements, a track without a function, and zero bytes after it.
 PADDED = (
     b'<?xml version="1.0" encoding="UTF-8"?><BWFXML><IXML_VERSION>1.5</IXML_VERSION><PROJECT>240501</PROJECT>'
     b"<SCENE>MARSH</SCENE><TAKE>002</TAKE><TAPE></TAPE><NOTE/><TRACK_LIST><TRACK_COUNT>1</TRACK_COUNT><TRACK>"
