@@ -7,3 +7,4 @@ mod LeftOutLemmas
 mod ReceiptLemmas
 mod ServingLemmas
 mod SeveralLemmas
+mod SeveralWorlds

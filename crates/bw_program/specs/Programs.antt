@@ -52,14 +52,13 @@ use Rattle.bw_program.specs.Requests.{NewRecording, KeptRecording, AnyRecording}
 use Rattle.bw_program.specs.Requests.{FoundRecording, RecordingWithReceipt, RecordingAsAsked}
 use Rattle.bw_program.specs.Requests.{SpooledSamples, FileSamples, AnySamples}
 use Rattle.bw_program.specs.Requests.{EachRecording, NamedRecording, OneRecording}
-use Rattle.bw_program.specs.SeveralCommands.{DoesInTurn, IsRequestOf, IsSenderOf, PrintsQueueLine, queue_line}
+use Rattle.bw_program.specs.SeveralCommands.{DoesAfter, DoesInTurn, IsRequestOf, IsSenderOf, PrintsQueueLine, queue_line}
 use Rattle.bw_queue.specs.NamedRecordings.{queued_path}
 use Rattle.bw_queue.specs.QueueOpenings.{OpensQueue, ReportsLine, opening_world}
 use Rattle.bw_queue.specs.StoredRecordings.{HasReceipt}
 use Rattle.bw_queue.specs.declared.recording.QueuedRecording.{QueuedRecording}
 use Rattle.bw_queue.specs.declared.request.Queue.{Queue}
 use Rattle.bw_queue.specs.declared.request.QueueRequest.{QueueRequest}
-use Rattle.bw_report.specs.FileFindings.{worse}
 use Rattle.bw_take_files.specs.declared.receipts.receipt.Receipt.{Receipt}
 use Rattle.bw_program.specs.Uploads.{SendsByState, SendsOrGivesUp, SendsRecording}
 use Rattle.bw_program.specs.Sides.{HostSide, KeptSide, SenderSide, ServerSide, UploadSide, ProgramWorld}
@@ -225,15 +224,8 @@ module _ {S T F H G M SB SL KP RC Ed LK DK DF N X Z P R W L K SP SK D A B U J Q 
     pub reports : ReportsLine host.reported (as_line (input_fault_text console_faults.Memory)) x.faults faults
     pub alone : x' ≡ record x { faults = faults }
 
-  -- it was sent as for a command line for it alone, after its line was printed or couldn't be; refused memory
-  -- ends it before
-  abbrev pub SendsAfter : Exit → FileSender → Exit → ProgramWorld S F DK N Q I O E →
-      ProgramWorld S F DK N Q I O E → Type 0
-  SendsAfter exits.Memory sender exit y x' = (exit ≡ exits.Memory) × (x' ≡ y)
-  SendsAfter said sender exit y x' =
-      (sent : Exit) × SendsFileAlone (host.system.failures y.system) sender sent y x' × (exit ≡ worse said sent)
-
-  -- one of several recordings was sent so
+  -- one of several recordings was sent as for a command line for it alone, after its line was printed, or
+  -- couldn't be
   pub record SendsNamed (several : FilesSender) (recording : QueuedRecording) (exit : Exit)
       (x x' : ProgramWorld S F DK N Q I O E) : Type 0 where
     pub sender : FileSender
@@ -243,7 +235,8 @@ module _ {S T F H G M SB SL KP RC Ed LK DK DF N X Z P R W L K SP SK D A B U J Q 
     pub faults : E
     pub says : PrintsQueueLine host.out host.reported (queue_line (codes "sending") recording) said
         x.out out x.faults faults
-    pub ends : SendsAfter said sender exit (record x { out = out; faults = faults }) x'
+    pub ends : DoesAfter (SendsFileAlone (host.system.failures x.system) sender) said exit
+        (record x { out = out; faults = faults }) x'
 
   -- its line was printed, that it is skipped, and nothing else is done
   pub record SkipsRecording (recording : QueuedRecording) (exit : Exit)

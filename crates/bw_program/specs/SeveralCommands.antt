@@ -66,6 +66,12 @@ pub record PrintsQueueLine {O E : Type 0} (out : Writer O) (reported : Writer E)
   pub is : PrintsText line did ⊎ IsOutOfMemory did
   pub writes : HasWritten out reported did o o' e e'
 
+-- this was done after something that ended so, unless memory was refused; the one of the higher status is the
+-- exit of both
+abbrev pub DoesAfter : {W : Type 0} → (Exit → W → W → Type 0) → Exit → Exit → W → W → Type 0
+DoesAfter does exits.Memory exit w w' = (exit ≡ exits.Memory) × (w' ≡ w)
+DoesAfter does said exit w w' = (done : Exit) × does done w w' × (exit ≡ worse said done)
+
 -- this was done with each of these in turn, until memory was refused; it ends as the one does whose status is
 -- the highest
 abbrev pub DoesInTurn : {R W : Type 0} → (R → Exit → W → W → Type 0) → List R → Exit → W → W → Type 0

@@ -2,7 +2,8 @@
 ghost use Rattle.std.specs.Prelude.{◌≡◌, IfOk, option_map, string_bytes};
 ghost use Rattle.bw_args.specs.declared.Task.TheVariants.{SendFiles};
 ghost use Rattle.bw_program.specs.Requests.{ByTask, ByUpload, EachRecording, NamedRecording, OneRecording};
-ghost use Rattle.bw_program.specs.SeveralCommands.{IsRequestOf, PrintsQueueLine, queue_line, receipts_path};
+ghost use Rattle.bw_program.specs.SeveralCommands.{DoesInTurn, IsRequestOf, PrintsQueueLine, queue_line};
+ghost use Rattle.bw_program.specs.SeveralCommands.{receipts_path};
 ghost use Rattle.bw_report.specs.FileFindings.{worse as worse_exit};
 
 use crate::behavior::Behavior;
@@ -79,38 +80,80 @@ fn send_each<X: Environment>(
     ensures { ⟦<Outside<X> as Behavior>⟧.does (ByUpload (EachRecording several.now queue.now.receipts.items
         queue.now.recordings.items)) result outside.old outside.new }
 {
+    send_in_turn(
+        alloc,
+        several,
+        &queue.receipts,
+        &queue.recordings,
+        outside,
+        observers,
+    )
+}
+
+/// Sends one of several recordings; a loop over these calls it.
+trait SendsOne: Behavior {
+    /// Who is shown what a sender does.
+    type Observers;
+
+    /// Sends one of several recordings, unless its receipt is there already.
+    ///
+    /// # Not specified
+    /// What `has_receipt` and the commands for one recording leave open.
+    fn send_one(
+        &mut self,
+        alloc: Global,
+        several: &FilesSender,
+        receipts: &[Receipt],
+        recording: &QueuedRecording,
+        observers: &mut Self::Observers,
+    ) -> Exit
+        ensures { Self.does (ByUpload (OneRecording several.now receipts.now recording.now)) result
+            self.old self.new };
+}
+
+impl<X: Environment> SendsOne for Outside<X> {
+    type Observers = ProgressObservers<X>;
+
+    fn send_one(
+        &mut self,
+        alloc: Global,
+        several: &FilesSender,
+        receipts: &[Receipt],
+        recording: &QueuedRecording,
+        observers: &mut ProgressObservers<X>,
+    ) -> Exit {
+        match has_receipt(alloc, &mut self.files, receipts, recording) {
+            Ok(true) => {
+                let Outside { out, faults, .. } = self;
+                say_line(alloc, "skipped", recording, out, faults)
+            }
+            Ok(false) => send_named(alloc, several, recording, self, observers),
+            Err(_) => give_up(&mut self.faults, &Fault::Memory),
+        }
+    }
+}
+
+/// Sends these recordings one after the other, until memory is refused. Returns the exit of the highest status.
+fn send_in_turn<B: SendsOne>(
+    alloc: Global,
+    several: &FilesSender,
+    receipts: &[Receipt],
+    recordings: &[QueuedRecording],
+    sender: &mut B,
+    observers: &mut B::Observers,
+) -> Exit
+    ensures { DoesInTurn (λ recording exit s s'. B.does (ByUpload (OneRecording several.now receipts.now recording))
+        exit s s') recordings.now result sender.old sender.new }
+{
     let mut worst = Exit::Done;
-    let receipts = queue.receipts.as_slice();
-    for recording in &queue.recordings {
-        let exit = send_one(alloc, several, receipts, recording, outside, observers);
+    for recording in recordings {
+        let exit = sender.send_one(alloc, several, receipts, recording, observers);
         if let Exit::Memory = exit {
             return Exit::Memory;
         }
         worst = worse(worst, exit);
     }
     worst
-}
-
-/// Sends one of several recordings, unless its receipt is there already.
-fn send_one<X: Environment>(
-    alloc: Global,
-    several: &FilesSender,
-    receipts: &[Receipt],
-    recording: &QueuedRecording,
-    outside: &mut Outside<X>,
-    observers: &mut ProgressObservers<X>,
-) -> Exit
-    ensures { ⟦<Outside<X> as Behavior>⟧.does (ByUpload (OneRecording several.now receipts.now recording.now))
-        result outside.old outside.new }
-{
-    match has_receipt(alloc, &mut outside.files, receipts, recording) {
-        Ok(true) => {
-            let Outside { out, faults, .. } = outside;
-            say_line(alloc, "skipped", recording, out, faults)
-        }
-        Ok(false) => send_named(alloc, several, recording, outside, observers),
-        Err(_) => give_up(&mut outside.faults, &Fault::Memory),
-    }
 }
 
 /// Sends one of several recordings, after the line that names it, as the command line for it alone does.

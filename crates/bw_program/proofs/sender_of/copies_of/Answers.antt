@@ -10,6 +10,6 @@ loop-text-preserved c =
     ap (map string_bytes) c.in_ok-push.ensures.items
     ∙ (map-append string_bytes c.loop-text.copies.items (c.in_ok-from_str.field-0 ∷ [])
     ∙ (ap (λ (l : List (List ℕ)). l ++ string_bytes c.in_ok-from_str.field-0 ∷ []) c.loop-text.invariant
-    ∙ (ap (λ (t : List ℕ). before ++ t ∷ []) c.in_ok-from_str.ensures
+    ∙ (ap (λ (t : List ℕ). before ++ t ∷ []) c.in_ok-from_str.ensures.ok
     ∙ sym (texts_more string_bytes c.args.texts.now c.loop-text.text-index c.text-item.result text
     c.loop-text-test.true c.text-item.is c.as_str.ensures.value))))

@@ -1,6 +1,6 @@
 use Rattle.std.proofs.Common.{inl, inr, refl}
 use Rattle.bw_console.specs.declared.exit.Exit.TheVariants as exits
-use Rattle.bw_program.proofs.SeveralLemmas.{sent_after}
+use Rattle.bw_program.proofs.SeveralLemmas.{done_after}
 use Rattle.bw_program.proofs.several.send_named.Goals as goal
 
 pub returns-in_default : goal.returns-in_default
@@ -45,7 +45,7 @@ returns g c =
         out = c.say_line.new.out;
         faults = c.say_line.new.faults;
         says = c.say_line.ensures;
-        ends = sent_after _ _ _ _ _ _ _ c.say_line.result _ _ _ _ c.in_default-say_line.not-Memory (
+        ends = done_after _ c.say_line.result _ _ _ c.in_default-say_line.not-Memory (
           c.send_file_asked.result,
           (sent.sent, sent.well, sent.unused, sent.unread, sent.kept),
           c.worse.ensures,

@@ -1,5 +1,5 @@
-use Rattle.std.proofs.Common.{Err, Ok, false, inl, inr, refl, rules, true}
-use Rattle.bw_program.proofs.several.send_one.Goals as goal
+use Rattle.std.proofs.Common.{Err, Ok, false, refl, true}
+use Rattle.bw_program.proofs.several.OutsideSendsOne.send_one.Goals as goal
 
 pub returns-in-Ok-true : goal.returns-in-Ok-true
 returns-in-Ok-true g c = record {
@@ -7,7 +7,7 @@ returns-in-Ok-true g c = record {
     files = c.has_receipt.new.files;
     unchanged = c.in-Ok-true.ensures.files;
     found = Ok true;
-    has = c.in-Ok-true.ensures.has;
+    has = rw c.in-Ok-true.field-0-test at c.in-Ok-true.ensures.has;
     ends = record { out = c.say_line.new.out; faults = c.say_line.new.faults; says = c.say_line.ensures; alone = refl };
   };
   well = refl;
@@ -23,7 +23,7 @@ returns-in-Ok-false g c =
         files = c.has_receipt.new.files;
         unchanged = c.in-Ok-false.ensures.files;
         found = Ok false;
-        has = c.in-Ok-false.ensures.has;
+        has = rw c.in-Ok-false.field-0-test at c.in-Ok-false.ensures.has;
         ends = sent.sent;
       };
       well = sent.well;
