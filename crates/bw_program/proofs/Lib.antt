@@ -6,3 +6,5 @@ mod RequestLemmas
 mod LeftOutLemmas
 mod ReceiptLemmas
 mod ServingLemmas
+mod SeveralLemmas
+mod SeveralWorlds

@@ -14,3 +14,4 @@ pub mod PcmCommands
 pub mod RepairCommands
 pub mod ConvertCommands
 pub mod ReceiptCommands
+pub mod SeveralCommands

@@ -1,6 +1,7 @@
 -- What the program does for a command line.
 use Rattle.std.specs.Prelude.{◌≡◌, ◌⊎◌, ◌++◌, ℕ, Bool, true, false, Option, Some, List, [], Result, Ok, Err}
-use Rattle.std.specs.Prelude.{string_bytes}
+use Rattle.std.specs.Prelude.{IfOk, codes, string_bytes}
+use Rattle.std.specs.declared.alloc.AllocError.{AllocError}
 use Rattle.std.specs.declared.io.ErrorKind.{ErrorKind}
 use Rattle.clap.specs.Walk.{Text}
 use Rattle.clap.specs.Values.{kind_of}
@@ -14,20 +15,23 @@ use Rattle.bw_args.specs.declared.CommandLine.{CommandLine}
 use Rattle.bw_args.specs.declared.CommandLine.TheVariants.{Run, BadValue as Bad, Report}
 use Rattle.bw_args.specs.declared.Task.{Task}
 use Rattle.bw_args.specs.declared.recordings.FileSender.{FileSender}
+use Rattle.bw_args.specs.declared.recordings.FilesSender.{FilesSender}
 use Rattle.bw_args.specs.declared.Task.TheVariants.{Replay, Inspect, Rehearse, Serve, Send, SendFile}
 use Rattle.bw_args.specs.declared.Task.TheVariants.{SendPcm}
 use Rattle.bw_args.specs.declared.Task.TheVariants.{Pack, Picture, InspectFiles, Repair, Convert, Takes}
-use Rattle.bw_args.specs.declared.Task.TheVariants.{Join, Verify}
+use Rattle.bw_args.specs.declared.Task.TheVariants.{Join, SendFiles, Verify}
 use Rattle.bw_args.specs.declared.recordings.SourceFile.{SourceFile}
 use Rattle.bw_console.specs.Outcomes.{Outcome, Does, IsOutOfMemory}
 use Rattle.bw_commands.specs.Replays.{IsReplay}
-use Rattle.bw_console.specs.Faults.{IsReportedBy, exit_of}
+use Rattle.bw_console.specs.Faults.{IsReportedBy, exit_of, input_fault_text}
 use Rattle.bw_commands.specs.Inspections.{IsPrintOfText}
 use Rattle.bw_console.specs.Prints.{Nothing, IsOf}
 use Rattle.bw_console.specs.BadArgv.{IsBadArgv}
 use Rattle.bw_console.specs.declared.exit.Exit.{Exit}
 use Rattle.bw_console.specs.declared.exit.Exit.TheVariants as exits
+use Rattle.bw_console.specs.Text.{as_line}
 use Rattle.bw_console.specs.declared.fault.Fault.{Fault}
+use Rattle.bw_console.specs.declared.fault.Fault.TheVariants as console_faults
 use Rattle.bw_delivery.specs.Chosen.{IsChosenRehearsal}
 use Rattle.bw_ports.specs.declared.network.Network.{Ghosts as NetworkGhosts}
 use Rattle.bw_ports.specs.declared.listener_setup.ListenerSetup.{Ghosts as ListenerSetupGhosts}
@@ -47,6 +51,15 @@ use Rattle.bw_program.specs.ReceiptCommands.{SendsAsAsked, SendsWithReceipt, Sen
 use Rattle.bw_program.specs.Requests.{NewRecording, KeptRecording, AnyRecording}
 use Rattle.bw_program.specs.Requests.{FoundRecording, RecordingWithReceipt, RecordingAsAsked}
 use Rattle.bw_program.specs.Requests.{SpooledSamples, FileSamples, AnySamples}
+use Rattle.bw_program.specs.Requests.{EachRecording, NamedRecording, OneRecording}
+use Rattle.bw_program.specs.SeveralCommands.{DoesAfter, DoesInTurn, IsRequestOf, IsSenderOf, PrintsQueueLine, queue_line}
+use Rattle.bw_queue.specs.NamedRecordings.{queued_path}
+use Rattle.bw_queue.specs.QueueOpenings.{OpensQueue, ReportsLine, opening_world}
+use Rattle.bw_queue.specs.StoredRecordings.{HasReceipt}
+use Rattle.bw_queue.specs.declared.recording.QueuedRecording.{QueuedRecording}
+use Rattle.bw_queue.specs.declared.request.Queue.{Queue}
+use Rattle.bw_queue.specs.declared.request.QueueRequest.{QueueRequest}
+use Rattle.bw_take_files.specs.declared.receipts.receipt.Receipt.{Receipt}
 use Rattle.bw_program.specs.Uploads.{SendsByState, SendsOrGivesUp, SendsRecording}
 use Rattle.bw_program.specs.Sides.{HostSide, KeptSide, SenderSide, ServerSide, UploadSide, ProgramWorld}
 
@@ -99,6 +112,7 @@ IsTaskDone file_at input (InspectFiles inspection) gives_all did = ⊥
 IsTaskDone file_at input (Serve server) gives_all did = ⊥
 IsTaskDone file_at input (Send sender) gives_all did = ⊥
 IsTaskDone file_at input (SendFile sender) gives_all did = ⊥
+IsTaskDone file_at input (SendFiles sender) gives_all did = ⊥
 IsTaskDone file_at input (SendPcm sender) gives_all did = ⊥
 IsTaskDone file_at input (Pack source) gives_all did = ⊥
 IsTaskDone file_at input (Picture file) gives_all did = ⊥
@@ -203,6 +217,84 @@ module _ {S T F H G M SB SL KP RC Ed LK DK DF N X Z P R W L K SP SK D A B U J Q 
     pub ends : DoneIfKept failed result done exit
         (record x { files = kept.files; disk = kept.disk; faults = kept.faults }) x'
 
+  -- memory was refused before a recording was sent: that is reported, and nothing else is done
+  pub record GivesUpOne (exit : Exit) (x x' : ProgramWorld S F DK N Q I O E) : Type 0 where
+    pub ends : exit ≡ exits.Memory
+    pub faults : E
+    pub reports : ReportsLine host.reported (as_line (input_fault_text console_faults.Memory)) x.faults faults
+    pub alone : x' ≡ record x { faults = faults }
+
+  -- one of several recordings was sent as for a command line for it alone, after its line was printed, or
+  -- couldn't be
+  pub record SendsNamed (several : FilesSender) (recording : QueuedRecording) (exit : Exit)
+      (x x' : ProgramWorld S F DK N Q I O E) : Type 0 where
+    pub sender : FileSender
+    pub sender_is : IsSenderOf several recording sender
+    pub said : Exit
+    pub out : O
+    pub faults : E
+    pub says : PrintsQueueLine host.out host.reported (queue_line (codes "sending") recording) said
+        x.out out x.faults faults
+    pub ends : DoesAfter (SendsFileAlone (host.system.failures x.system) sender) said exit
+        (record x { out = out; faults = faults }) x'
+
+  -- its line was printed, that it is skipped, and nothing else is done
+  pub record SkipsRecording (recording : QueuedRecording) (exit : Exit)
+      (x x' : ProgramWorld S F DK N Q I O E) : Type 0 where
+    pub out : O
+    pub faults : E
+    pub says : PrintsQueueLine host.out host.reported (queue_line (codes "skipped") recording) exit
+        x.out out x.faults faults
+    pub alone : x' ≡ record x { out = out; faults = faults }
+
+  -- by whether its receipt is there already
+  abbrev pub SendsUnless : Result Bool AllocError → FilesSender → QueuedRecording → Exit →
+      ProgramWorld S F DK N Q I O E → ProgramWorld S F DK N Q I O E → Type 0
+  SendsUnless (Ok true) several recording exit y x' = SkipsRecording recording exit y x'
+  SendsUnless (Ok false) several recording exit y x' =
+      SendsNamed several recording exit y x' ⊎ GivesUpOne exit y x'
+  SendsUnless (Err refused) several recording exit y x' = GivesUpOne exit y x'
+
+  -- one of several recordings was sent, or skipped as its receipt is among these
+  pub record SendsOne (several : FilesSender) (receipts : List Receipt) (recording : QueuedRecording)
+      (exit : Exit) (x x' : ProgramWorld S F DK N Q I O E) : Type 0 where
+    pub files : F
+    pub unchanged : host.files.file_at files ≡ host.files.file_at x.files
+    pub found : Result Bool AllocError
+    pub has : IfOk found (λ has. HasReceipt (host.files.file_at x.files (queued_path recording)) receipts recording
+        has (host.files.failures x.files) (host.files.failures files))
+    pub ends : SendsUnless found several recording exit (record x { files = files }) x'
+
+  -- .. and nothing else is used
+  pub record SendsOneAlone (several : FilesSender) (receipts : List Receipt) (recording : QueuedRecording)
+      (exit : Exit) (x x' : ProgramWorld S F DK N Q I O E) : Type 0 where
+    pub sends : SendsOne several receipts recording exit x x'
+    pub well : IsHostWell (host.system.failures x.system) x'
+    pub unused : x'.network ≡ x.network
+    pub unread : x'.input ≡ x.input
+    pub kept : x'.disk ≡ x.disk
+
+  -- the recordings that were found were sent in turn; else why there are none was reported, and nothing more is
+  -- done
+  abbrev pub SendsQueue : ℕ → FilesSender → Result Queue Exit → Exit → ProgramWorld S F DK N Q I O E →
+      ProgramWorld S F DK N Q I O E → Type 0
+  SendsQueue failed several (Ok queue) exit y x' =
+      DoesInTurn (SendsOneAlone several queue.receipts.items) queue.recordings.items exit y x'
+      × IsHostWell failed x' × (x'.network ≡ y.network) × (x'.input ≡ y.input) × (x'.disk ≡ y.disk)
+  SendsQueue failed several (Err ended) exit y x' = (exit ≡ ended) × LeavesAll failed y x'
+
+  -- several recordings were looked for, and sent
+  pub record SendsSeveral (failed : ℕ) (several : FilesSender) (exit : Exit)
+      (x x' : ProgramWorld S F DK N Q I O E) : Type 0 where
+    pub request : QueueRequest
+    pub request_is : IsRequestOf several request
+    pub opened : Result Queue Exit
+    pub disk : DK
+    pub faults : E
+    pub opens : OpensQueue host.kinds x.files host.disk host.reported request opened
+        (opening_world x.disk x.faults) (opening_world disk faults)
+    pub ends : SendsQueue failed several opened exit (record x { disk = disk; faults = faults }) x'
+
   -- what is done for a task, and how the program ends, where the system has these files and so many
   -- calls of it had failed
   abbrev pub IsTaskFor : (Text → Option (List ℕ)) → ℕ → Task → Exit →
@@ -219,6 +311,7 @@ module _ {S T F H G M SB SL KP RC Ed LK DK DF N X Z P R W L K SP SK D A B U J Q 
       × (x'.pause ≡ x.pause) × (x'.disk ≡ x.disk)
   IsTaskFor file_at failed (SendFile sender) exit x x' =
       KeepsFirst failed sender.source (SendsFileAlone failed sender) exit x x'
+  IsTaskFor file_at failed (SendFiles sender) exit x x' = SendsSeveral failed sender exit x x'
   IsTaskFor file_at failed (SendPcm sender) exit x x' =
       IfFile host.kinds host.reported (string_bytes sender.source.path) sender.pcm.is_spooled exit
       x.files x'.files x.pause x'.pause x.out x'.out x.faults x'.faults
@@ -317,6 +410,12 @@ module _ {S T F H G M SB SL KP RC Ed LK DK DF N X Z P R W L K SP SK D A B U J Q 
   IsSentOver (AnySamples sender) exit x x' =
       SendsPcmCommand upload_side sender_side network host.files host.spools host.out host.reported
       sender exit x.files x'.files x.network x.pause x'.pause x.out x'.out x.faults x'.faults
+
+  IsSentOver (NamedRecording several recording) exit x x' =
+      SendsNamed several recording exit x x' ⊎ GivesUpOne exit x x'
+  IsSentOver (OneRecording several receipts recording) exit x x' = SendsOne several receipts recording exit x x'
+  IsSentOver (EachRecording several receipts recordings) exit x x' =
+      DoesInTurn (SendsOneAlone several receipts) recordings exit x x'
 
   -- .. and nothing else was used
   pub record IsSentAlone (upload : Upload) (exit : Exit) (x x' : ProgramWorld S F DK N Q I O E) : Type 0 where

@@ -4,12 +4,16 @@ use Rattle.clap.specs.Walk.{Text}
 use Rattle.bw_args.specs.declared.CommandLine.{CommandLine}
 use Rattle.bw_args.specs.declared.Task.{Task}
 use Rattle.bw_args.specs.declared.recordings.FileSender.{FileSender}
+use Rattle.bw_args.specs.declared.recordings.FilesSender.{FilesSender}
 use Rattle.bw_args.specs.declared.recordings.PcmSender.{PcmSender}
 use Rattle.bw_args.specs.declared.recordings.ReceiptTarget.{ReceiptTarget}
+use Rattle.bw_queue.specs.declared.recording.QueuedRecording.{QueuedRecording}
+use Rattle.bw_take_files.specs.declared.receipts.receipt.Receipt.{Receipt}
 
 -- what is sent: a recording, without a state, with the state at a path, or as the command line says,
 -- also only if a file is there, and so with a receipt, or as the command line says; headerless samples, of
--- a spool, of a file, or as the command line says
+-- a spool, of a file, or as the command line says; of several recordings one, with the line that names it, also
+-- unless its receipt is there already, or each of them
 pub data Upload : Type 0 where
   NewRecording : FileSender → Upload
   KeptRecording : List ℕ → FileSender → Upload
@@ -20,6 +24,9 @@ pub data Upload : Type 0 where
   SpooledSamples : PcmSender → Upload
   FileSamples : PcmSender → Upload
   AnySamples : PcmSender → Upload
+  NamedRecording : FilesSender → QueuedRecording → Upload
+  OneRecording : FilesSender → List Receipt → QueuedRecording → Upload
+  EachRecording : FilesSender → List Receipt → List QueuedRecording → Upload
 
 -- what the words mean that the system reports, or none; a command line; a task; or an upload. The first
 -- two are asked of a program that was built from what these lines say

@@ -13,6 +13,8 @@ mod receipts;
 mod recordings;
 mod remote;
 mod samples;
+mod sender_of;
+mod several;
 mod sources;
 mod tasks;
 mod uploads;

@@ -15,6 +15,7 @@ use crate::folders::{verify_folder, work_on_takes};
 use crate::left_out::{join_recordings, pack_recording, send_file_kept};
 use crate::outside::{Environment, Outside, ProgressObservers};
 use crate::remote::send_typed;
+use crate::several::send_files;
 use crate::sources::send_pcm_there;
 use crate::tasks::{
     draw_recording, inspect_each, inspect_file, rehearse_input, repair_recording, replay_input,
@@ -129,6 +130,7 @@ fn run<X: Environment>(
         Task::Serve(server) => serve_folder(alloc, server, outside),
         Task::Send(sender) => send_typed(alloc, sender, outside, &mut observers.watch),
         Task::SendFile(sender) => send_file_kept(alloc, sender, outside, observers),
+        Task::SendFiles(sender) => send_files(alloc, sender, outside, observers),
         Task::SendPcm(sender) => send_pcm_there(alloc, sender, outside, observers),
         Task::Pack(source) => pack_recording(alloc, source, outside),
         Task::Picture { file } => draw_recording(alloc, file, outside),

@@ -22,6 +22,9 @@ returns-in-Send g c = task_is _ _ _ _ _ _ _ _ _ _ c.in-Send.is c.send_typed.ensu
 pub returns-in-SendFile : goal.returns-in-SendFile
 returns-in-SendFile g c = task_is _ _ _ _ _ _ _ _ _ _ c.in-SendFile.is c.send_file_kept.ensures
 
+pub returns-in-SendFiles : goal.returns-in-SendFiles
+returns-in-SendFiles g c = task_is _ _ _ _ _ _ _ _ _ _ c.in-SendFiles.is c.send_files.ensures
+
 pub returns-in-SendPcm : goal.returns-in-SendPcm
 returns-in-SendPcm g c = task_is _ _ _ _ _ _ _ _ _ _ c.in-SendPcm.is c.send_pcm_there.ensures
 

@@ -1,0 +1,6 @@
+pub mod NamingLemmas
+pub mod NamedLemmas
+pub mod ListingLemmas
+pub mod PlanningLemmas
+pub mod OpeningLemmas
+pub mod StoredLemmas
