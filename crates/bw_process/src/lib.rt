@@ -9,7 +9,7 @@ use bw_operators::StatusSetup;
 use bw_ports::{ListenerSetup, PacedNetwork};
 use bw_program::{Environment, Outside, ProgressObservers, start};
 use bw_progress::{
-    ClearingSink, LastOutage, LineHandle, LinePace, LineWatch, LogScreen, LoggedWatch,
+    BatchPart, ClearingSink, LastOutage, LineHandle, LinePace, LineWatch, LogScreen, LoggedWatch,
     OutageReports, RenewingPause, SendWatch, SharedProgress,
 };
 use bw_send_file::LinkLog;
@@ -226,6 +226,7 @@ fn observers_of<
             faults: StdIo::new(rt.stderr()),
             last: LastOutage::none(),
         },
+        part: BatchPart::alone(),
         environment: PhantomData,
     }
 }

@@ -32,10 +32,19 @@ module _ {S T F H G M SB SL KP RC Ed LK DK DF N X Z P R W L K SP SK D A B U J Q 
   }
   each_alone world several receipts (recording ∷ recordings) exit v v' done =
       let one = done.2 in elim (done.3) [
-          inl stopped ↦ record {
-          sent = (done.0, world done.1, record {
-            sends = one.sent; well = one.well; unused = one.unused; unread = one.unread; kept = one.kept
-          }, inl (stopped.0, stopped.1, ap world stopped.2));
+        | inl stopped ↦ record {
+          sent = (
+            done.0,
+            world done.1,
+            record {
+              sends = one.sent;
+              well = one.well;
+              unused = one.unused;
+              unread = one.unread;
+              kept = one.kept;
+            },
+            inl (stopped.0, stopped.1, ap world stopped.2),
+          );
           well = ap (λ x. host.system.failures (world x).system) stopped.2 ∙ one.well;
           unused = ap (λ x. (world x).network) stopped.2 ∙ one.unused;
           unread = ap (λ x. (world x).input) stopped.2 ∙ one.unread;
@@ -43,9 +52,18 @@ module _ {S T F H G M SB SL KP RC Ed LK DK DF N X Z P R W L K SP SK D A B U J Q 
         }
         | inr goes ↦
             let rest = each_alone world several receipts recordings goes.1.0 done.1 v' goes.1.1 in record {
-              sent = (done.0, world done.1, record {
-                sends = one.sent; well = one.well; unused = one.unused; unread = one.unread; kept = one.kept
-              }, inr (goes.0, (goes.1.0, rest.sent, goes.1.2)));
+              sent = (
+                done.0,
+                world done.1,
+                record {
+                  sends = one.sent;
+                  well = one.well;
+                  unused = one.unused;
+                  unread = one.unread;
+                  kept = one.kept;
+                },
+                inr (goes.0, (goes.1.0, rest.sent, goes.1.2)),
+              );
               well = rest.well ∙ one.well;
               unused = rest.unused ∙ one.unused;
               unread = rest.unread ∙ one.unread;

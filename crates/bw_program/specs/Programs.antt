@@ -410,7 +410,6 @@ module _ {S T F H G M SB SL KP RC Ed LK DK DF N X Z P R W L K SP SK D A B U J Q 
   IsSentOver (AnySamples sender) exit x x' =
       SendsPcmCommand upload_side sender_side network host.files host.spools host.out host.reported
       sender exit x.files x'.files x.network x.pause x'.pause x.out x'.out x.faults x'.faults
-
   IsSentOver (NamedRecording several recording) exit x x' =
       SendsNamed several recording exit x x' ⊎ GivesUpOne exit x x'
   IsSentOver (OneRecording several receipts recording) exit x x' = SendsOne several receipts recording exit x x'

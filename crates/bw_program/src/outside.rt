@@ -5,7 +5,7 @@ use bw_ports::{
     EditedFiles, FileKinds, FolderLocks, ListenerSetup, PacedNetwork, Pause, ReceiptKeeping,
     RecordingFiles, SpoolKeeping, StateKeeping, System, Watch,
 };
-use bw_progress::UploadWatch;
+use bw_progress::{BatchPart, UploadWatch};
 use bw_serve::{Opens, ServeRules};
 use bw_stream::{Sink, Source};
 use bw_takes::ScreenStyle;
@@ -88,6 +88,25 @@ pub struct ProgressObservers<X: Environment> {
     pub watch: X::Watch,
     /// Is shown the links of a sender of recordings, and its progress, where a log is asked for.
     pub log: X::Log,
+    /// Which of several recordings is sent.
+    pub part: BatchPart,
     /// As in `Outside`.
     pub environment: PhantomData<X>,
+}
+
+impl<X: Environment> ProgressObservers<X> {
+    /// So many recordings are sent, one after the other.
+    pub(crate) fn begin_batch(&mut self, count: usize) {
+        self.part = BatchPart {
+            number: 0,
+            count: u32::try_from(count).unwrap_or(u32::MAX),
+        };
+    }
+
+    /// The next of several recordings is sent.
+    pub(crate) fn go_on(&mut self) {
+        self.part.number = self.part.number.saturating_add(1);
+        self.watch.part(self.part.number, self.part.count);
+        self.log.part(self.part.number, self.part.count);
+    }
 }

@@ -80,6 +80,7 @@ fn send_each<X: Environment>(
     ensures { ⟦<Outside<X> as Behavior>⟧.does (ByUpload (EachRecording several.now queue.now.receipts.items
         queue.now.recordings.items)) result outside.old outside.new }
 {
+    observers.begin_batch(queue.recordings.len());
     send_in_turn(
         alloc,
         several,
@@ -122,6 +123,7 @@ impl<X: Environment> SendsOne for Outside<X> {
         recording: &QueuedRecording,
         observers: &mut ProgressObservers<X>,
     ) -> Exit {
+        observers.go_on();
         match has_receipt(alloc, &mut self.files, receipts, recording) {
             Ok(true) => {
                 let Outside { out, faults, .. } = self;
