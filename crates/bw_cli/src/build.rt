@@ -2,5 +2,5 @@
 
 /// The toolchain, and the SHA-256 digest of the sources, a line each.
 pub const BUILD: &str = "toolchain: rattle-kit-13f logic dac8208d650f15bf
-sources: 23fd7e84faca07905d12d323d7367849f19f2f43fb114f305e2c78f5a44a59f2
+sources: a8f09593425dcc8bb3a34d2b00bf2ede21e71ad9f5f5368e94d8dc3560e6b067
 ";
