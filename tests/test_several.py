@@ -1,230 +1,240 @@
 #!/usr/bin/env python3
-"""Runs `send FILE..`: which recordings it sends, under which names, and what it doesn't send again after kills.
+"""Runs `send FILE..`: which recordings, under which names, with which receipts, and again after kills.
 
-The names were worked out by hand, and the digests are hashlib's. The program is the first argument, or the one of this
-repository. Prints what differs, and last 'N passed, M failed'.
+Names were worked out by hand, and digests are hashlib's of the bytes that were sent. In the last case one command sends
+forty files of up to 200 MB, and is killed five times: each take has to be there once, with its samples and one receipt.
+
+The program is the first argument, or the one of this repository. Prints what differs, and last 'N passed, M failed'.
 """
 import hashlib
+import os
 import random
 import signal
 import subprocess
 import sys
-import time
 
 sys.dont_write_bytecode = True  # nothing is left beside this script
 from kit.network import LOCAL, run, run_cases, start, TALLY, wait_until
 from kit.recordings import data, fmt, Recording, riff
-from kit.uploads import requests_of, serving, settled, unseen
+from kit.uploads import samples_of, serving, unseen, written
 
 LONGEST_RUN = 240  # seconds, for all of it
 NEW = ("resumed 0 takes",)  # over a new folder
 MEGABYTE = 1 << 20
-ALIGN = 4  # bytes of a frame: two channels of 16 bits
-
+FILES = 40
+LONG = {7: 12, 19: 24, 33: 200}  # megabytes of some of these; the others have one
 
 def file_of(samples):
     return riff(fmt(Recording(channels=2)), data(samples))
 
 
-def samples_of(seed, size=4 * 500):
-    return random.Random(seed).randbytes(min(size, MEGABYTE)) * max(1, size // MEGABYTE)
+def some_samples(seed, count=4_000):
+    return random.Random(seed).randbytes(4 * count)
 
 
-def filled(folder, names):
-    """A folder of recordings with these names, each with samples of its own; the samples by name."""
-    folder.mkdir(exist_ok=True)
-    made = {name: samples_of(name) for name in names}
-    for name, samples in made.items():
-        (folder / name).write_bytes(file_of(samples))
-    return made
-
-
-def several(port, *words):
+def words_of(port, *words):
     return ("send", "--connect", f"{LOCAL}:{port}", *map(str, words))
 
 
-def told(word, name, path, samples):
-    """What is printed of a recording that is sent, or of one that is skipped."""
-    line = f"{word} {name} {path}\n"
-    return line + settled(requests_of(samples, ALIGN)) if word == "sending" else line
+def receipt(name, samples, port, path):
+    digest = hashlib.sha256(samples).hexdigest()
+    return f"receipt {name} {len(samples) // 4} sha256={digest} {LOCAL}:{port} {path}\n"
 
 
-def digest_of(path):
-    """The SHA-256 of the samples in a take's file, whose `data` chunk is the last or before a `cue `."""
-    with path.open("rb") as file:
-        head = file.read(4096)
-        at = head.index(b"data") + 4
-        size = int.from_bytes(head[at:at + 4], "little")
-        file.seek(at + 4)
-        return hashlib.sha256(file.read(size)).hexdigest()
+def lines_of_names(out):
+    """The lines that name recordings."""
+    return [line for line in out.splitlines() if line.split(" ")[0] in ("sending", "skipped")]
 
 
-def same_takes(folder, wanted):
-    """The folder has exactly these takes, each with its samples."""
-    found = {path.stem: digest_of(path) for path in folder.glob("*.wav")}
-    TALLY.same("takes", found, {name: hashlib.sha256(samples).hexdigest() for name, samples in wanted.items()})
-
-
-NAMES = {
-    "Take 01.WAV": "take-01",
-    "M\u00fcrz_2.wav": "m-rz_2",
-    "a.b.wav": "a-b",
-    "-x": "-x",
-    ".wav": "-wav",
-    "\u6771\u4eac (1).Wav": "----1-",
-    32 * "z" + ".wav": 32 * "z",
-}
+def refused(name, wanted, *words, status=1):
+    """Nothing leaves, and this is told."""
+    with unseen(name) as port:
+        TALLY.same(name, run(*words_of(port, *words)), (status, "", wanted))
 
 
 def case_names(place):
-    """A take's name is that of its file, in small letters; a character that no name has is a hyphen."""
-    made = filled(place / "from", NAMES)
-    paths = [place / "from" / name for name in NAMES]
-    wanted = "".join(told("sending", NAMES[path.name], path, made[path.name]) for path in paths)
-    with serving(place, "--journal", "--recorders", "2", opening=NEW) as server:
-        TALLY.same("sent", run(*several(server.port, *paths)), (0, wanted, ""))
-        same_takes(place / "takes", {NAMES[name]: samples for name, samples in made.items()})
+    """The name of a take, by the path of its recording."""
+    files = {
+        "Take 1.WAV": "take-1", "b.x.wav": "b-x", "zwei_3-x.bw64": "zwei_3-x", "\u00dcbung.wav": "-bung",
+        "a\u0301\u4e2d.wav": "a--", "noend": "noend", ".wav": "-wav", f"{'z' * 32}.wav": "z" * 32,
+    }
+    with serving(place, "--recorders", "1", opening=()) as server:
+        samples = some_samples(1)
+        paths = [written(place, file_of(samples), name) for name in files]
+        status, out, faults = run(*words_of(server.port, *paths))
+        wanted = [f"sending {name} {path}" for name, path in zip(files.values(), paths)]
+        TALLY.same("sent", (status, lines_of_names(out), faults), (0, wanted, ""))
+        stored = {path.name: samples_of(path) == samples for path in (place / "takes").iterdir()}
+        TALLY.same("stored", stored, {f"{name}.wav": True for name in files.values()})
+    long = written(place, file_of(samples), f"{'z' * 33}.wav")
+    refused("too long", f"{long}: no name: use --names\n", long)
+    refused("empty", f"{place}/x/: no name: use --names\n", f"{place}/x/")
 
 
-def case_no_names(place):
-    """What has no name, or that of another, is refused before anything leaves."""
-    filled(place / "from", [33 * "z" + ".wav", "A 1.wav", "a-1.bw64"])
-    long, first, second = (place / "from" / name for name in (33 * "z" + ".wav", "A 1.wav", "a-1.bw64"))
-    with unseen("no names") as port:
-        line = f"{long}: no name: use --names\n"
-        TALLY.same("too long", run(*several(port, first, long)), (1, "", line))
-        line = f"{first} and {second}: one name for both: use --names\n"
-        TALLY.same("alike", run(*several(port, first, second)), (1, "", line))
-        line = f"{first} and {first}: one name for both: use --names\n"
-        TALLY.same("twice", run(*several(port, first, first)), (1, "", line))
+def case_two_alike(place):
+    first, second = (written(folder_of(place, name), file_of(b""), "Take.wav") for name in ("a", "b"))
+    third = written(place, file_of(b""), "take.bw64")
+    for one, other in ((first, second), (first, third)):
+        refused("alike", f"{one} and {other}: one name for both: use --names\n", one, other)
+    refused("the same file", f"{first} and {first}: one name for both: use --names\n", first, first)
+
+
+def folder_of(place, name):
+    folder = place / name
+    folder.mkdir()
+    return folder
 
 
 def case_folders(place):
-    """A folder stands for its recordings by name; other files and folders in it aren't sent."""
-    inner = place / "from"
-    made = filled(inner, ["b.WAV", "a.bw64", "c.Rf64", "B2.wav"])
-    filled(inner / "sub", ["x.wav"])
-    (inner / "notes.txt").write_text("none")
-    (inner / "d.wav").mkdir()
-    order = ["B2.wav", "a.bw64", "b.WAV", "c.Rf64"]
-    wanted = "".join(
-        told("sending", name.split(".")[0].lower(), inner / name, made[name]) for name in order
-    )
-    with serving(place, "--recorders", "2") as server:
-        TALLY.same("a folder", run(*several(server.port, inner)), (0, wanted, ""))
-    (place / "blank").mkdir()
-    with unseen("an empty folder") as port:
-        told_of = run(*several(port, inner, place / "blank"))
-        TALLY.same("an empty folder", told_of, (1, "", f"{place / 'blank'}: no recordings\n"))
+    """A folder stands for its recordings, in the order of their bytes, and not for those of its folders."""
+    card = folder_of(place, "card")
+    for name in ("b.wav", "C.WAV", "a.rf64", "a.txt", ".c.wav", "wav"):
+        written(card, file_of(some_samples(2)), name)
+    written(folder_of(card, "sub.wav"), file_of(b""), "d.wav")
+    os.mkfifo(card / "pipe.wav")
+    alone = written(place, file_of(some_samples(3)), "z.wav")
+    order = [("z", alone), ("c", card / "C.WAV"), ("a", card / "a.rf64"), ("b", card / "b.wav")]
+    wanted = [f"sending {name} {path}" for name, path in order]
+    with serving(place, opening=()) as server:
+        status, out, faults = run(*words_of(server.port, alone, f"{card}/"))
+        TALLY.same("sent", (status, lines_of_names(out), faults), (0, wanted, ""))
+        TALLY.same("again", lines_of_names(run(*words_of(server.port, alone, card))[1]), wanted)
+    none = folder_of(place, "none")
+    refused("no recordings", f"{none}: no recordings\n", alone, none)
 
 
 def case_file_of_names(place):
-    """NAMES gives names to paths; its first bad line is named, and nothing leaves."""
-    inner = place / "from"
-    made = filled(inner, ["A.wav", "B.wav"])
-    one, two, names = inner / "A.wav", inner / "B.wav", place / "names"
-    names.write_text(f"day-1 {one}\n\nother {inner}/none.wav\n")
-    wanted = told("sending", "day-1", one, made["A.wav"]) + told("sending", "b", two, made["B.wav"])
-    with serving(place, "--recorders", "2") as server:
-        TALLY.same("named", run(*several(server.port, "--names", names, one, two)), (0, wanted, ""))
-    for line in ("x", "x ", f"X {one}", f" {one}", f"{33 * 'x'} {one}", f"day-2 {one}"):
-        names.write_text(f"day-1 {one}\n{line}\n")
-        with unseen(f"names {line!r}") as port:
-            said = f"{names} line 2: not a new path with its name\n"
-            TALLY.same(f"{line!r}", run(*several(port, "--names", names, one)), (1, "", said))
-    for path in (place / "nowhere", inner):
-        with unseen(f"names {path}") as port:
-            told_of = run(*several(port, "--names", path, one))
-            TALLY.same(f"names {path.name}", told_of, (3, "", f"{path} can't be read\n"))
+    """NAMES gives recordings their names, those of folders too; its other lines are left out."""
+    card = folder_of(place, "card")
+    one, two = (written(card, file_of(some_samples(seed)), f"x {seed}.wav") for seed in (4, 5))
+    third = written(place, file_of(some_samples(6)), "x 4.wav")
+    names = place / "names"
+    names.write_text(f"\nfirst {one}\nelse {place}/nowhere\nsecond {third}\n")
+    with serving(place, opening=()) as server:
+        status, out, faults = run(*words_of(server.port, "--names", names, card, third))
+        wanted = [f"sending first {one}", f"sending x-5 {two}", f"sending second {third}"]
+        TALLY.same("sent", (status, lines_of_names(out), faults), (0, wanted, ""))
+    for text, number in (
+        (f"a {one}\nA {two}\n", 2), ("a\n", 1), ("a \n", 1), (f" {one}\n", 1), (f"{'a' * 33} {one}\n", 1), (f"a {one}\n\nb {one}", 3),
+        (f"a\t{one}\n", 1),
+    ):
+        names.write_text(text)
+        refused(f"{text!r}", f"{names} line {number}: not a new path with its name\n", "--names", names, one)
+    names.write_text(f"same {one}\nsame {two}\n")
+    refused("one name", f"{one} and {two}: one name for both: use --names\n", "--names", names, card)
+    for path in (place / "none", place):
+        refused(f"{path}", f"{path} can't be read\n", "--names", path, one, status=3)
+    os.mkfifo(place / "fifo")
+    refused("a pipe", f"{place / 'fifo'} is a pipe\n", "--names", place / "fifo", one, status=3)
 
 
-def case_worst(place):
-    """Each is tried, whatever became of those before, and the status is the largest."""
-    inner = place / "from"
-    made = filled(inner, ["a.wav", "z.wav"])
-    bad, none = inner / "bad.wav", inner / "none.wav"
-    bad.write_bytes(b"RIFFxxxx")
-    first = told("sending", "a", inner / "a.wav", made["a.wav"])
-    last = told("sending", "z", inner / "z.wav", made["z.wav"])
-    with serving(place, "--recorders", "2") as server:
-        status, out, faults = run(*several(server.port, inner / "a.wav", bad, inner / "z.wav"))
-        TALLY.same("one refused", (status, out), (1, first + f"sending bad {bad}\n" + last))
-        TALLY.holds("one refused: its line", faults.startswith("send: ") and faults.count("\n") >= 1, faults)
-        status, out, _faults = run(*several(server.port, none, bad, inner / "z.wav"))
-        TALLY.same("one missing", (status, out), (3, f"sending none {none}\nsending bad {bad}\n" + last))
+def case_statuses(place):
+    """All are tried, and the status is the worst of all."""
+    good = [written(place, file_of(some_samples(seed)), f"good{seed}.wav") for seed in (7, 8)]
+    bad = written(place, b"no recording", "bad.wav")
+    os.mkfifo(place / "pipe")
+    with serving(place, opening=()) as server:
+        for paths, wanted in (
+            ((good[0], bad, good[1]), 1), ((place / "lost.wav", good[0]), 3), ((bad, place / "pipe", good[0]), 3), (good, 0),
+        ):
+            status, out, _faults = run(*words_of(server.port, *paths))
+            told = (status, len(lines_of_names(out)), out.count("settled "))
+            TALLY.same(f"{paths}", told, (wanted, len(paths), sum(path in good for path in paths)))
 
 
 def case_receipts(place):
-    """What has its receipt is skipped, and isn't sent or noted again; what has changed is sent."""
-    inner, receipts = place / "from", place / "receipts"
-    made = filled(inner, ["a.wav", "b.wav"])
-    words = ("--receipt", receipts, inner)
-    with serving(place, "--journal", "--recorders", "2", opening=NEW) as server:
-        status, _out, _faults = run(*several(server.port, *words))
-        text = receipts.read_text()
-        TALLY.same("sent", (status, text.count("\n")), (0, 2))
-        skipped = "".join(told("skipped", name, inner / f"{name}.wav", b"") for name in "ab")
-        TALLY.same("skipped", (run(*several(server.port, *words)), receipts.read_text()), ((0, skipped, ""), text))
-        (inner / "b.wav").write_bytes(file_of(samples_of("other")))
-        status, out, _faults = run(*several(server.port, *words))
-        TALLY.same("another recording", (status, out.splitlines()[:2]), (1, [
-            f"skipped a {inner}/a.wav", f"sending b {inner}/b.wav",
-        ]))
-        TALLY.same("its receipt", receipts.read_text(), text)
-        same_takes(place / "takes", {"a": made["a.wav"], "b": made["b.wav"]})
-    for line in ("x", text.splitlines()[0].upper()):
-        receipts.write_text(f"{line}\n{text}")
-        with unseen(f"receipts {line!r}") as port:
-            said = (1, "", f"{receipts} line 1: not a receipt\n")
-            TALLY.same(f"{line!r}", run(*several(port, *words)), said)
+    """What has its receipt is skipped; what has other samples isn't. Each take has one receipt."""
+    samples = {name: some_samples(name) for name in ("a", "b", "c")}
+    paths = {name: written(place, file_of(its), f"{name}.wav") for name, its in samples.items()}
+    receipts = place / "receipts"
+    with serving(place, "--journal", opening=NEW) as server:
+        line = lambda name: receipt(name, samples[name], server.port, paths[name])
+        told = run(*words_of(server.port, "--receipt", receipts, paths["a"]))
+        TALLY.same("one", (told[0], receipts.read_text()), (0, line("a")))
+        told = run(*words_of(server.port, "--receipt", receipts, *paths.values()))
+        wanted = [f"skipped a {paths['a']}", f"sending b {paths['b']}", f"sending c {paths['c']}"]
+        TALLY.same("the others", lines_of_names(told[1]), wanted)
+        TALLY.same("receipts", (told[0], receipts.read_text()), (0, line("a") + line("b") + line("c")))
+        told = run(*words_of(server.port, "--receipt", receipts, *paths.values()))
+        TALLY.same("again", told, (0, "".join(f"skipped {name} {path}\n" for name, path in paths.items()), ""))
+        receipts.write_text(line("a") + line("b").replace("sha256=", "sha256=0")[:-2])
+        told = run(*words_of(server.port, "--receipt", receipts, paths["a"], paths["b"]))
+        wanted = [f"skipped a {paths['a']}", f"sending b {paths['b']}"]
+        TALLY.same("after a line that is cut", (told[0], lines_of_names(told[1])), (0, wanted))
+        written(place, file_of(some_samples("other")), "a.wav")
+        told = run(*words_of(server.port, "--receipt", place / "others", paths["a"]))
+        TALLY.same("other samples", (told[0], lines_of_names(told[1])), (1, [f"sending a {paths['a']}"]))
+        receipts.write_text(line("a"))
+        told = run(*words_of(server.port, "--receipt", receipts, paths["a"]))
+        TALLY.same("other samples than the receipt's", (told[0], lines_of_names(told[1])), (1, [f"sending a {paths['a']}"]))
+    for text, number in (("x\n", 1), (line("a") + "\nx\n" + line("b"), 3)):
+        receipts.write_text(text)
+        refused(f"{text!r}", f"{receipts} line {number}: not a receipt\n", "--receipt", receipts, paths["b"])
+    refused("a device", "/dev/zero is a device\n", "--receipt", "/dev/zero", paths["b"], status=3)
+
+
+def case_states(place):
+    """Each has its state in the folder of states."""
+    states = folder_of(place, "states")
+    paths = [written(place, file_of(some_samples(seed)), f"{seed}.wav") for seed in (1, 2)]
+    with serving(place, "--journal", opening=NEW) as server:
+        for folder in (states, f"{states}/"):
+            status, out, faults = run(*words_of(server.port, "--state", folder, *paths))
+            TALLY.same("sent", (status, out.count("settled "), faults), (0, 2, ""))
+            TALLY.same("states", sorted(path.name for path in states.iterdir()), ["1.state", "2.state"])
+
+
+def card_of(place):
+    """A folder of recordings, and the SHA-256 of the samples of each by its name."""
+    card, digests = folder_of(place, "card"), {}
+    for number in range(FILES):
+        samples = random.Random(number).randbytes(MEGABYTE) * LONG.get(number, 1)
+        digests[f"t{number:02}"] = hashlib.sha256(samples).hexdigest()
+        written(card, file_of(samples), f"T{number:02}.WAV")
+    return card, digests
+
+
+def put(receipts):
+    """The names and digests of the receipts that are there, whole."""
+    lines = receipts.read_text().splitlines(True) if receipts.exists() else []
+    return [(line.split()[1], line.split()[3].removeprefix("sha256=")) for line in lines if line.endswith("\n")]
 
 
 def case_kills(place):
-    """Forty recordings, sent by one command that is killed five times: each is there once, with one receipt."""
-    inner, states, receipts = place / "from", place / "states", place / "receipts"
-    inner.mkdir()
-    states.mkdir()
-    made = {}
-    for number in range(40):
-        megabytes = {7: 12, 19: 24, 33: 200}.get(number, 1)
-        made[f"t{number:02}"] = samples_of(number, megabytes * MEGABYTE)
-        (inner / f"T{number:02}.WAV").write_bytes(file_of(made[f"t{number:02}"]))
+    """One command for all files is killed in long and in short ones: at last each take is there once, with one receipt."""
+    card, digests = card_of(place)
+    states, receipts = folder_of(place, "states"), place / "receipts"
+
+    def counts(name):
+        """Whether a state counts requests that are settled."""
+        state = states / f"{name}.state"
+        return state.exists() and b"settled" in state.read_bytes()
+
     kills = {
-        "the first one": lambda: len(sent(receipts)) >= 1,
-        "a long one": lambda: grown(states / "t07.state"),
-        "some": lambda: len(sent(receipts)) >= 15,
-        "another long one": lambda: grown(states / "t19.state"),
-        "the longest": lambda: grown(states / "t33.state"),
+        "the first": lambda: len(put(receipts)) >= 1,
+        "a long one": lambda: counts("t07"),
+        "some": lambda: len(put(receipts)) >= 15,
+        "another long one": lambda: counts("t19"),
+        "the longest": lambda: counts("t33"),
     }
     with serving(place, "--journal", "--recorders", "2", opening=NEW) as server:
-        words = several(server.port, "--rate", "60000000", "--state", states, "--receipt", receipts, inner)
+        words = words_of(server.port, "--rate", "60000000", "--state", states, "--receipt", receipts, card)
         for name, is_time in kills.items():
             process = start(*words, stdout=subprocess.DEVNULL, stderr=subprocess.DEVNULL)
             wait_until(is_time, f"{name} is sent")
             process.kill()
             TALLY.same(f"{name}: killed", process.wait(), -signal.SIGKILL)
-        before = len(sent(receipts))
+        before = len(put(receipts))
         status, out, _faults = run(*words)
-        TALLY.same("the last run", (status, out.count("skipped "), out.count("sending ")), (0, before, 40 - before))
-        wanted = sorted((name, hashlib.sha256(samples).hexdigest()) for name, samples in made.items())
-        TALLY.same("receipts", sorted(sent(receipts)), wanted)
-        same_takes(place / "takes", made)
-    compared = run("takes", "--folder", str(place / "takes"), "--verify", str(receipts))
-    TALLY.same("compared", compared, (0, "matched 40 of 40\n", ""))
-
-
-def sent(receipts):
-    """The names and digests of the receipts that are there."""
-    if not receipts.exists():
-        return []
-    lines = receipts.read_text().splitlines(True)
-    return [(line.split()[1], line.split()[3].removeprefix("sha256=")) for line in lines if line.endswith("\n")]
-
-
-def grown(state):
-    """Whether a state counts requests that are settled."""
-    time.sleep(0.01)
-    return state.exists() and b"settled" in state.read_bytes()
+        ways = [line.split(" ")[0] for line in lines_of_names(out)]
+        wanted = ["skipped"] * before + ["sending"] * (FILES - before)
+        TALLY.same("at last", (status, ways), (0, wanted))
+        TALLY.same("receipts", sorted(put(receipts)), sorted(digests.items()))
+    takes = place / "takes"
+    stored = {path.stem: hashlib.sha256(samples_of(path)).hexdigest() for path in takes.glob("*.wav")}
+    TALLY.same("takes", stored, digests)
+    told = run("takes", "--folder", str(takes), "--verify", str(receipts))
+    TALLY.same("verified", told, (0, f"matched {FILES} of {FILES}\n", ""))
 
 
 cases = [value for name, value in list(globals().items()) if name.startswith("case_")]
