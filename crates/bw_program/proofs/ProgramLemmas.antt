@@ -17,7 +17,7 @@ use Rattle.bw_args.specs.declared.CommandLine.{CommandLine}
 use Rattle.bw_args.specs.declared.CommandLine.TheVariants.{Run, BadValue as Bad, Report}
 use Rattle.bw_args.specs.declared.Task.TheVariants.{Replay, Inspect, Rehearse, Serve, Send, SendFile, SendPcm}
 use Rattle.bw_args.specs.declared.Task.TheVariants.{Pack, Picture, InspectFiles, Repair, Convert, Takes}
-use Rattle.bw_args.specs.declared.Task.TheVariants.{Join, Verify}
+use Rattle.bw_args.specs.declared.Task.TheVariants.{Join, SendFiles, Verify}
 use Rattle.bw_args.specs.declared.recordings.SourceFile.{SourceFile}
 use Rattle.bw_program.specs.LeftOutCommands.{KeepWorld}
 use Rattle.bw_program.specs.Programs.{DoesAlone, DoneIfKept, IsDoneFor, IsProgram, IsReporting, IsUnread, KeepsFirst}
@@ -173,6 +173,17 @@ module _ {S T F H G M SB SL KP RC Ed LK DK DF N X Z P R W L K SP SK D A B U J Q 
       done_for (Run (Serve server)) done = done
       done_for (Run (Send sender)) done = done
       done_for (Run (SendFile sender)) done = kept_first _ _ exit system x x' (λ w is. is) done
+      done_for (Run (SendFiles several)) done = record {
+        request = done.request;
+        request_is = done.request_is;
+        opened = done.opened;
+        system = done.system;
+        counts = done.counts;
+        disk = done.disk;
+        faults = done.faults;
+        opens = done.opens;
+        ends = done.ends;
+      }
       done_for (Run (SendPcm sender)) done = done
       done_for (Run (Pack source)) done = kept_first _ _ exit system x x' (λ w is. is) done
       done_for (Run (Picture file)) done = done

@@ -283,17 +283,20 @@ module _ {S T F H G M SB SL KP RC Ed LK DK DF N X Z P R W L K SP SK D A B U J Q 
       × IsHostWell failed x' × (x'.network ≡ y.network) × (x'.input ≡ y.input) × (x'.disk ≡ y.disk)
   SendsQueue failed several (Err ended) exit y x' = (exit ≡ ended) × LeavesAll failed y x'
 
-  -- several recordings were looked for, and sent
+  -- several recordings were looked for, and sent: of the system it is known how many calls of it failed
   pub record SendsSeveral (failed : ℕ) (several : FilesSender) (exit : Exit)
       (x x' : ProgramWorld S F DK N Q I O E) : Type 0 where
     pub request : QueueRequest
     pub request_is : IsRequestOf several request
     pub opened : Result Queue Exit
+    pub system : S
+    pub counts : host.system.failures system ≡ failed
     pub disk : DK
     pub faults : E
     pub opens : OpensQueue host.kinds x.files host.disk host.reported request opened
         (opening_world x.disk x.faults) (opening_world disk faults)
-    pub ends : SendsQueue failed several opened exit (record x { disk = disk; faults = faults }) x'
+    pub ends : SendsQueue failed several opened exit
+        (record x { system = system; disk = disk; faults = faults }) x'
 
   -- what is done for a task, and how the program ends, where the system has these files and so many
   -- calls of it had failed
