@@ -178,9 +178,11 @@ def case_states(place):
     states = folder_of(place, "states")
     paths = [written(place, file_of(some_samples(seed)), f"{seed}.wav") for seed in (1, 2)]
     with serving(place, "--journal", opening=NEW) as server:
-        for folder in (states, f"{states}/"):
+        gone_on = [f"{states}/{name}.state: goes on at" for name in "12"]  # at how many that were noted in time
+        for folder, wanted in ((states, []), (f"{states}/", gone_on)):
             status, out, faults = run(*words_of(server.port, "--state", folder, *paths))
-            TALLY.same("sent", (status, out.count("settled "), faults), (0, 2, ""))
+            said = [line.rpartition(" ")[0] for line in faults.splitlines()]
+            TALLY.same("sent", (status, out.count("settled "), said), (0, 2, wanted))
             TALLY.same("states", sorted(path.name for path in states.iterdir()), ["1.state", "2.state"])
 
 
