@@ -172,7 +172,9 @@ def try_file_senders(runs, program):
 
         for kind in kinds:
             runs.each(f"send {name}", kind, run, what_an_upload_breaks)
-    try_receipts(runs, [program, "send", "--connect", f"{LOCAL}:{server.port}", "--name", "a1", "--file", sound])
+    words = [program, "send", "--connect", f"{LOCAL}:{server.port}", "--timeout", "1"]
+    try_receipts(runs, [*words, "--name", "a1", "--file", sound])
+    try_several(runs, words, sound)
     server.stop(signal.SIGKILL)
     shutil.rmtree(folder, ignore_errors=True)
 
@@ -183,7 +185,7 @@ def try_receipts(runs, words):
 
     def run(kind, number):
         path.unlink(missing_ok=True)
-        found = runs.one([*words, "--timeout", "1", "--receipt", path], b"", kind, number)
+        found = runs.one([*words, "--receipt", path], b"", kind, number)
         return *found, path.read_bytes() if path.exists() else b""
 
     def wrong(kind, found, wanted):
@@ -195,3 +197,32 @@ def try_receipts(runs, words):
 
     for kind in ("growth", "read", "write", "open", "seek", "stat", "sync"):
         runs.each("send --receipt", kind, run, wrong)
+
+
+def try_several(runs, words, sound):
+    """Several recordings, of which one has its receipt: the other one has one if it is stored; if not, a cause is said."""
+    other, names, receipts = (runs.work / name for name in ("other.wav", "names", "kept-receipts"))
+    other.write_bytes(sound.read_bytes())
+    names.write_text(f"b1 {other}\n")
+    command = [*words, "--names", names, "--receipt", receipts, sound, other]
+    receipts.unlink(missing_ok=True)
+    runs.one(command, b"", "open", 0)
+    first, second = receipts.read_bytes().splitlines(True)
+
+    def run(kind, number):
+        receipts.write_bytes(first)
+        return *runs.one(command, b"", kind, number), receipts.read_bytes()
+
+    def wrong(kind, found, wanted):
+        status, out, said, put = found
+        added = put.removeprefix(first)
+        if status == 0:  # a recording that can't be read for its receipt is sent again, and has another
+            return None if put.startswith(first) and added in (second, first + second) else "other receipts"
+        if status not in ((3, 4) if kind == "growth" else (3,)) or not said:
+            return "another status, or no cause"
+        if b"settled" not in out and added:
+            return "a receipt of what isn't stored"
+        return None if is_prefix(added, second) or is_prefix(added, first + second) else "another receipt"
+
+    for kind in ("growth", "read", "write", "open", "seek", "stat", "sync"):
+        runs.each("send FILE..", kind, run, wrong)
