@@ -2,7 +2,7 @@
 use crate::tests::play::{OTHERS, QUICK, QUICK_OTHER, Received, VERDICTS, bounds, try_serve};
 use crate::tests::scripted_reactor::{Plan, Visit};
 use bw_model::Name;
-use bw_tests_server::two_frames;
+use bw_tests_format::two_frames;
 use std::alloc::Global;
 use std::process::Abort;
 use std::test::Fail;

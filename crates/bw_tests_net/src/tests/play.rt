@@ -11,7 +11,7 @@ use bw_serve::{Bounds, run_event_loop};
 use bw_session::Server;
 use bw_store::MemoryStore;
 use bw_stream::MemorySink;
-use bw_tests_server::two_frames;
+use bw_tests_format::two_frames;
 use std::alloc::Global;
 use std::process::Abort;
 use std::test::Fail;
