@@ -1,4 +1,5 @@
 pub mod MemoryDisks
+pub mod HadContents
 pub mod Cuts
 pub mod PrefixReads
 pub mod DiskChains

@@ -3,6 +3,7 @@ ghost use Rattle.std.specs.Prelude.{◌≡◌, ℕ, List, Bool, Option, IsTrue, 
 ghost use Rattle.std.specs.Prelude.{is_err, length};
 ghost use Rattle.bw_store.specs.Stores.{Written, MayTear, KeepsOthers};
 ghost use Rattle.bw_disk.specs.Disks.{Makes, IsOneCall, Syncs};
+ghost use Rattle.bw_disk.specs.PowerLosses.{LeavesMoreAt, LeavesSynced};
 
 use thiserror::Error;
 
@@ -27,6 +28,10 @@ pub trait Disk: Drop {
 
     /// The content that each path had when its file was last synced.
     ghost synced: { Self → List ℕ → Option (List ℕ) };
+
+    /// The contents that each path has had since its file was last synced, of which a loss of power may
+    /// leave any mixture (`may_find`), `None` where there was no file, or its folder may not list it.
+    ghost had: { Self → List ℕ → List (Option (List ℕ)) };
 
     /// The path of an open file.
     ghost path_of: { Self.File → List ℕ };
@@ -58,6 +63,8 @@ pub trait Disk: Drop {
             OnErr result (contents self.new path.now ≡ contents self.old path.now) }
         ensures others { IsTrue (honest self.old) →
             KeepsOthers (contents self.old) (contents self.new) path.now }
+        ensures left { IsTrue (honest self.old) → LeavesMoreAt path.now
+            (contents self.new path.now) (had self.old) (had self.new) }
         ensures synced { IsTrue (honest self.old) →
             (other : List ℕ) → synced self.new other ≡ synced self.old other };
 
@@ -87,6 +94,8 @@ pub trait Disk: Drop {
             (contents self.new (path_of file.old))) }
         ensures others { IsTrue (honest self.old) →
             KeepsOthers (contents self.old) (contents self.new) (path_of file.old) }
+        ensures left { IsTrue (honest self.old) → LeavesMoreAt (path_of file.old)
+            (contents self.new (path_of file.old)) (had self.old) (had self.new) }
         ensures synced { IsTrue (honest self.old) →
             (other : List ℕ) → synced self.new other ≡ synced self.old other };
 
@@ -103,6 +112,8 @@ pub trait Disk: Drop {
         ensures honest { honest self.new ≡ honest self.old }
         ensures unchanged { IsTrue (honest self.old) →
             (other : List ℕ) → contents self.new other ≡ contents self.old other }
+        ensures left { IsTrue (honest self.old) → LeavesSynced result (path_of file.now)
+            (contents self.old (path_of file.now)) (had self.old) (had self.new) }
         ensures synced { IsTrue (honest self.old) → Syncs result
             (contents self.old (path_of file.now)) (synced self.old) (synced self.new)
             (path_of file.now) };

@@ -65,13 +65,15 @@ impl MemoryDisk {
 
 impl Disk for MemoryDisk {
     ghost use Rattle.bw_disk.specs.MemoryVolumes.{files_on, disk_content, disk_synced, open_path};
-    ghost use Rattle.bw_disk.specs.MemoryVolumes.{disk_calls, disk_failures};
+    ghost use Rattle.bw_disk.specs.MemoryVolumes.{disk_calls, disk_failures, disk_had};
 
     type File = MemoryFile;
 
     ghost contents = { disk_content };
 
     ghost synced = { disk_synced };
+
+    ghost had = { disk_had };
 
     ghost path_of = { open_path };
 

@@ -140,6 +140,8 @@ impl<D: Volume> Disk for MortalDisk<D> {
 
     ghost synced = { λ d path. D.synced d.inner path };
 
+    ghost had = { λ d path. D.had d.inner path };
+
     ghost path_of = { λ file. D.path_of file };
 
     ghost failures = { λ d. d.failures };

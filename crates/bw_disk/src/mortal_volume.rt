@@ -6,6 +6,8 @@ ghost use Rattle.bw_disk.specs.MortalDisks.{IsMortalCall, IsMortalWrite};
 ghost use Rattle.bw_disk.specs.Volumes.{Finds, ReadsFrom, WrittenInPart, IsCutTo, IsCutInPart};
 ghost use Rattle.bw_disk.specs.Volumes.{Moves, Renames, Lists, KeepsEach, KeepsAllBut};
 
+ghost use Rattle.bw_disk.specs.PowerLosses.{LeavesListed, LeavesMoreBut};
+
 use crate::disk::DiskFault;
 use crate::mortal::MortalDisk;
 use crate::reading::ReadFault;
@@ -137,6 +139,8 @@ impl<D: Volume> Volume for MortalDisk<D> {
             ⊎ KeepsEach (D.contents self.old.inner) (D.contents self.new.inner)) }
         ensures synced { IsTrue (D.honest self.old.inner) →
             KeepsAllBut from.now to.now (D.synced self.old.inner) (D.synced self.new.inner) }
+        ensures left { IsTrue (D.honest self.old.inner) →
+            LeavesMoreBut from.now to.now (D.had self.old.inner) (D.had self.new.inner) }
     {
         if self.succeeds_unseen() {
             let _ = self.inner.rename(from, to);
@@ -188,6 +192,8 @@ impl<D: Volume> Volume for MortalDisk<D> {
     fn sync_folder(&mut self, folder: &str) -> Result<(), DiskFault>
         ensures call { IsMortalCall D.Disk self.old self.new (is_err result) }
         ensures rest { StaysWhole D.Disk self.old.inner self.new.inner }
+        ensures left { IsTrue (D.honest self.old.inner) → LeavesListed result folder.now
+            (D.contents self.old.inner) (D.had self.old.inner) (D.had self.new.inner) }
     {
         self.live()?;
         let answer = self.inner.sync_folder(folder);

@@ -62,6 +62,8 @@ impl<R: Files + Drop> Disk for SystemDisk<R> {
 
     ghost synced = { λ d path. None };
 
+    ghost had = { λ d path. [] };
+
     ghost path_of = { λ file. [] };
 
     ghost failures = { λ d. d.failures };

@@ -5,6 +5,8 @@ ghost use Rattle.bw_store.specs.Stores.{Written, KeepsOthers};
 ghost use Rattle.bw_disk.specs.Disks.{IsOneCall, Syncs};
 ghost use Rattle.bw_disk.specs.Volumes.{Finds, ReadsFrom, WrittenInPart, IsCutTo, IsCutInPart};
 ghost use Rattle.bw_disk.specs.Volumes.{Moves, Renames, Lists, KeepsEach, KeepsAllBut};
+ghost use Rattle.bw_disk.specs.PowerLosses.{LeavesNoMore, LeavesMoreAt, LeavesSynced, LeavesListed};
+ghost use Rattle.bw_disk.specs.PowerLosses.{LeavesMoreBut};
 
 use crate::disk::{Disk, DiskFault};
 use crate::reading::ReadFault;
@@ -30,6 +32,8 @@ pub trait Volume: Disk {
             (λ found. Finds Self.path_of path.now found (Self.contents self.old path.now)) }
         ensures contents { IsTrue (Self.honest self.old) →
             KeepsEach (Self.contents self.old) (Self.contents self.new) }
+        ensures left { IsTrue (Self.honest self.old) →
+            LeavesNoMore (Self.had self.old) (Self.had self.new) }
         ensures synced { IsTrue (Self.honest self.old) →
             KeepsEach (Self.synced self.old) (Self.synced self.new) };
 
@@ -47,6 +51,8 @@ pub trait Volume: Disk {
             (λ len. option_map length (Self.contents self.old (Self.path_of file.now)) ≡ Some len) }
         ensures contents { IsTrue (Self.honest self.old) →
             KeepsEach (Self.contents self.old) (Self.contents self.new) }
+        ensures left { IsTrue (Self.honest self.old) →
+            LeavesNoMore (Self.had self.old) (Self.had self.new) }
         ensures synced { IsTrue (Self.honest self.old) →
             KeepsEach (Self.synced self.old) (Self.synced self.new) };
 
@@ -73,6 +79,8 @@ pub trait Volume: Disk {
             (Self.contents self.old (Self.path_of file.old)) offset (length room.old) count room.new) }
         ensures contents { IsTrue (Self.honest self.old) →
             KeepsEach (Self.contents self.old) (Self.contents self.new) }
+        ensures left { IsTrue (Self.honest self.old) →
+            LeavesNoMore (Self.had self.old) (Self.had self.new) }
         ensures synced { IsTrue (Self.honest self.old) →
             KeepsEach (Self.synced self.old) (Self.synced self.new) };
 
@@ -97,6 +105,8 @@ pub trait Volume: Disk {
             (Self.contents self.new (Self.path_of file.old))) }
         ensures others { IsTrue (Self.honest self.old) →
             KeepsOthers (Self.contents self.old) (Self.contents self.new) (Self.path_of file.old) }
+        ensures left { IsTrue (Self.honest self.old) → LeavesMoreAt (Self.path_of file.old)
+            (Self.contents self.new (Self.path_of file.old)) (Self.had self.old) (Self.had self.new) }
         ensures synced { IsTrue (Self.honest self.old) →
             KeepsEach (Self.synced self.old) (Self.synced self.new) };
 
@@ -120,6 +130,8 @@ pub trait Volume: Disk {
             (Self.contents self.new (Self.path_of file.old))) }
         ensures others { IsTrue (Self.honest self.old) →
             KeepsOthers (Self.contents self.old) (Self.contents self.new) (Self.path_of file.old) }
+        ensures left { IsTrue (Self.honest self.old) → LeavesMoreAt (Self.path_of file.old)
+            (Self.contents self.new (Self.path_of file.old)) (Self.had self.old) (Self.had self.new) }
         ensures synced { IsTrue (Self.honest self.old) →
             KeepsEach (Self.synced self.old) (Self.synced self.new) };
 
@@ -144,6 +156,8 @@ pub trait Volume: Disk {
         ensures failed { IsTrue (Self.honest self.old) → OnErr result
             (Moves from.now to.now (Self.contents self.old) (Self.contents self.new)
             ⊎ KeepsEach (Self.contents self.old) (Self.contents self.new)) }
+        ensures left { IsTrue (Self.honest self.old) →
+            LeavesMoreBut from.now to.now (Self.had self.old) (Self.had self.new) }
         ensures synced { IsTrue (Self.honest self.old) →
             KeepsAllBut from.now to.now (Self.synced self.old) (Self.synced self.new) };
 
@@ -164,6 +178,8 @@ pub trait Volume: Disk {
             Lists folder.now (Self.contents self.old) (map string_bytes names.items)) }
         ensures contents { IsTrue (Self.honest self.old) →
             KeepsEach (Self.contents self.old) (Self.contents self.new) }
+        ensures left { IsTrue (Self.honest self.old) →
+            LeavesNoMore (Self.had self.old) (Self.had self.new) }
         ensures synced { IsTrue (Self.honest self.old) →
             KeepsEach (Self.synced self.old) (Self.synced self.new) };
 
@@ -180,6 +196,8 @@ pub trait Volume: Disk {
         ensures honest { Self.honest self.new ≡ Self.honest self.old }
         ensures contents { IsTrue (Self.honest self.old) →
             KeepsEach (Self.contents self.old) (Self.contents self.new) }
+        ensures left { IsTrue (Self.honest self.old) → LeavesSynced result (Self.path_of file.now)
+            (Self.contents self.old (Self.path_of file.now)) (Self.had self.old) (Self.had self.new) }
         ensures synced { IsTrue (Self.honest self.old) → Syncs result
             (Self.contents self.old (Self.path_of file.now)) (Self.synced self.old) (Self.synced self.new)
             (Self.path_of file.now) };
@@ -197,6 +215,8 @@ pub trait Volume: Disk {
         ensures honest { Self.honest self.new ≡ Self.honest self.old }
         ensures contents { IsTrue (Self.honest self.old) →
             KeepsEach (Self.contents self.old) (Self.contents self.new) }
+        ensures left { IsTrue (Self.honest self.old) → LeavesListed result folder.now
+            (Self.contents self.old) (Self.had self.old) (Self.had self.new) }
         ensures synced { IsTrue (Self.honest self.old) →
             KeepsEach (Self.synced self.old) (Self.synced self.new) };
 }
