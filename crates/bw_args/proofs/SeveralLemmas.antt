@@ -203,16 +203,22 @@ timeout_asks : (seconds : Text) → IsCountText most_seconds seconds → AsksFil
 unfolding clap_on_literals
 timeout_asks seconds is program connect path address at plain = send_asks program
     (literal (codes "--connect=" ++ connect) ∷ literal (codes "--timeout=" ++ seconds) ∷ unknown path ∷ [])
-    (tt, (tt, (plain, tt))) (refl, (refl, (plain, tt))) refl
-    (refl, files_by (Some (number_written seconds), (is, refl), refl) (None, refl, refl) at refl refl refl refl refl refl refl refl refl refl refl refl)
+    (tt, (tt, (plain, tt))) (refl, (refl, (plain, tt))) refl (
+      refl,
+      files_by (Some (number_written seconds), (is, refl), refl) (None, refl, refl) at
+          refl refl refl refl refl refl refl refl refl refl refl refl,
+    )
 
 fruitless_asks : (count : Text) → IsCountText most_fruitless count → AsksFiles false ((codes "--fruitless=" ++ count) ∷ [])
     (λ a p. SendingFiles (record (plain_files a (p ∷ [])) { fruitless = number_written count }))
 unfolding clap_on_literals
 fruitless_asks count is program connect path address at plain = send_asks program
     (literal (codes "--connect=" ++ connect) ∷ literal (codes "--fruitless=" ++ count) ∷ unknown path ∷ [])
-    (tt, (tt, (plain, tt))) (refl, (refl, (plain, tt))) refl
-    (refl, files_by (None, refl, refl) (Some (number_written count), (is, refl), refl) at refl refl refl refl refl refl refl refl refl refl refl refl)
+    (tt, (tt, (plain, tt))) (refl, (refl, (plain, tt))) refl (
+      refl,
+      files_by (None, refl, refl) (Some (number_written count), (is, refl), refl) at
+          refl refl refl refl refl refl refl refl refl refl refl refl,
+    )
 
 log_asks : AsksFiles false ((codes "--log") ∷ [])
     (λ a p. SendingFiles (record (plain_files a (p ∷ [])) { log = true }))
@@ -298,7 +304,8 @@ bad_name name program connect path address at plain = send_lacks program
 bad_two_ways : (name file : Text) → LacksFiles ((codes "--name=" ++ name) ∷ (codes "--file=" ++ file) ∷ []) Files
 unfolding clap_on_literals
 bad_two_ways name file program connect path address at plain = send_lacks program
-    (literal (codes "--connect=" ++ connect) ∷ literal (codes "--name=" ++ name) ∷ literal (codes "--file=" ++ file) ∷ unknown path ∷ []) Files
+    (literal (codes "--connect=" ++ connect) ∷ literal (codes "--name=" ++ name) ∷ literal (codes "--file=" ++ file)
+    ∷ unknown path ∷ []) Files
     (tt, (tt, (tt, (plain, tt)))) (refl, (refl, (refl, (plain, tt)))) refl refl
     (bad not_mixed)
 
