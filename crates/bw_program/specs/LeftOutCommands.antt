@@ -40,7 +40,8 @@ module _ {F H G M D DF E : Type 0} (files : FileGhosts F H G M) (kinds : KindGho
 
   -- the chunks of the recording at a path were kept in another file, or why they aren't was reported; what
   -- is at each path of a recording stays
-  pub record KeepsChunks (path to : List ℕ) (result : Result (Unit {0}) Exit) (w w' : KeepWorld F D E) : Type 0 where
+  pub record KeepsChunks (path to : List ℕ) (result : Result (Unit {0}) Exit) (w w' : KeepWorld F D E)
+      : Type 0 where
     pub gives_all : Bool
     pub is : IsKeeping disk (files.file_at w.files path) path to reported result
         w.disk w'.disk gives_all w.faults w'.faults
@@ -48,7 +49,8 @@ module _ {F H G M D DF E : Type 0} (files : FileGhosts F H G M) (kinds : KindGho
     pub unchanged : files.file_at w'.files ≡ files.file_at w.files
 
   -- .. as far as a file is known to be there
-  pub record KeepsByKind (path to : List ℕ) (result : Result (Unit {0}) Exit) (w w' : KeepWorld F D E) : Type 0 where
+  pub record KeepsByKind (path to : List ℕ) (result : Result (Unit {0}) Exit) (w w' : KeepWorld F D E)
+      : Type 0 where
     pub kind : FileKind
     pub found : kinds.kinds w.files path kind
     pub keeps : RefusesOddFile path kind result w w'

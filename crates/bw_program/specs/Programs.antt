@@ -52,13 +52,14 @@ use Rattle.bw_program.specs.Requests.{NewRecording, KeptRecording, AnyRecording}
 use Rattle.bw_program.specs.Requests.{FoundRecording, RecordingWithReceipt, RecordingAsAsked}
 use Rattle.bw_program.specs.Requests.{SpooledSamples, FileSamples, AnySamples}
 use Rattle.bw_program.specs.Requests.{EachRecording, NamedRecording, OneRecording}
-use Rattle.bw_program.specs.SeveralCommands.{DoesAfter, DoesInTurn, IsRequestOf, IsSenderOf, PrintsQueueLine, queue_line}
+use Rattle.bw_program.specs.SeveralCommands.{DoesAfter, DoesInTurn, IsRequestOf, IsSenderOf, PrintsQueueLine}
+use Rattle.bw_program.specs.SeveralCommands.{queue_line}
 use Rattle.bw_queue.specs.NamedRecordings.{queued_path}
 use Rattle.bw_queue.specs.QueueOpenings.{OpensQueue, ReportsLine, opening_world}
-use Rattle.bw_queue.specs.StoredRecordings.{HasReceipt}
 use Rattle.bw_queue.specs.declared.recording.QueuedRecording.{QueuedRecording}
 use Rattle.bw_queue.specs.declared.request.Queue.{Queue}
 use Rattle.bw_queue.specs.declared.request.QueueRequest.{QueueRequest}
+use Rattle.bw_report.specs.StoredRecordings.{HasReceipt}
 use Rattle.bw_take_files.specs.declared.receipts.receipt.Receipt.{Receipt}
 use Rattle.bw_program.specs.Uploads.{SendsByState, SendsOrGivesUp, SendsRecording}
 use Rattle.bw_program.specs.Sides.{HostSide, KeptSide, SenderSide, ServerSide, UploadSide, ProgramWorld}
@@ -199,7 +200,8 @@ module _ {S T F H G M SB SL KP RC Ed LK DK DF N X Z P R W L K SP SK D A B U J Q 
     pub unprinted : x'.out ≡ x.out
     pub unreported : x'.faults ≡ x.faults
 
-  -- this was done after what is asked for was kept; else keeping it ended the command, and nothing more is done
+  -- this was done after what is asked for was kept; else keeping it ended the command, and nothing more is
+  -- done
   abbrev pub DoneIfKept : ℕ → Result (Unit {0}) Exit →
       (Exit → ProgramWorld S F DK N Q I O E → ProgramWorld S F DK N Q I O E → Type 0) → Exit →
       ProgramWorld S F DK N Q I O E → ProgramWorld S F DK N Q I O E → Type 0
@@ -261,8 +263,8 @@ module _ {S T F H G M SB SL KP RC Ed LK DK DF N X Z P R W L K SP SK D A B U J Q 
     pub files : F
     pub unchanged : host.files.file_at files ≡ host.files.file_at x.files
     pub found : Result Bool AllocError
-    pub has : IfOk found (λ has. HasReceipt (host.files.file_at x.files (queued_path recording)) receipts recording
-        has (host.files.failures x.files) (host.files.failures files))
+    pub has : IfOk found (λ has. HasReceipt host.readers (host.files.file_at x.files (queued_path recording))
+        receipts recording.name has (host.files.failures x.files) (host.files.failures files))
     pub ends : SendsUnless found several recording exit (record x { files = files }) x'
 
   -- .. and nothing else is used
@@ -274,8 +276,8 @@ module _ {S T F H G M SB SL KP RC Ed LK DK DF N X Z P R W L K SP SK D A B U J Q 
     pub unread : x'.input ≡ x.input
     pub kept : x'.disk ≡ x.disk
 
-  -- the recordings that were found were sent in turn; else why there are none was reported, and nothing more is
-  -- done
+  -- the recordings that were found were sent in turn; else why there are none was reported, and nothing more
+  -- is done
   abbrev pub SendsQueue : ℕ → FilesSender → Result Queue Exit → Exit → ProgramWorld S F DK N Q I O E →
       ProgramWorld S F DK N Q I O E → Type 0
   SendsQueue failed several (Ok queue) exit y x' =
@@ -415,7 +417,8 @@ module _ {S T F H G M SB SL KP RC Ed LK DK DF N X Z P R W L K SP SK D A B U J Q 
       sender exit x.files x'.files x.network x.pause x'.pause x.out x'.out x.faults x'.faults
   IsSentOver (NamedRecording several recording) exit x x' =
       SendsNamed several recording exit x x' ⊎ GivesUpOne exit x x'
-  IsSentOver (OneRecording several receipts recording) exit x x' = SendsOne several receipts recording exit x x'
+  IsSentOver (OneRecording several receipts recording) exit x x' =
+      SendsOne several receipts recording exit x x'
   IsSentOver (EachRecording several receipts recordings) exit x x' =
       DoesInTurn (SendsOneAlone several receipts) recordings exit x x'
 

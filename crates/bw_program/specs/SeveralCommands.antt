@@ -1,5 +1,6 @@
 -- What is done for the command line that sends several recordings.
-use Rattle.std.specs.Prelude.{◌≡◌, ◌≢◌, ◌⊎◌, ◌++◌, ◌∷◌, [], ℕ, Bool, List, Option, None, Some, codes, map, option_map, string_bytes}
+use Rattle.std.specs.Prelude.{◌≡◌, ◌≢◌, ◌⊎◌, ◌++◌, ◌∷◌, [], ℕ, Bool, List, Option, None, Some, codes, map}
+use Rattle.std.specs.Prelude.{option_map, string_bytes}
 use Rattle.std.specs.Prelude.{if◌then◌else◌}
 use Rattle.std.specs.Str.{bytes_eq}
 use Rattle.bw_stream.specs.declared.sink.Sink.{Ghosts as Writer}
@@ -25,7 +26,8 @@ abbrev pub target_parts : Option ReceiptTarget → Option (List ℕ × Bool)
 target_parts target = option_map (λ t. (string_bytes t.path, t.json)) target
 
 -- the sender of one of several recordings, as a command line for it alone asks for it
-pub record IsSenderOf (several : FilesSender) (recording : QueuedRecording) (sender : FileSender) : Type 0 where
+pub record IsSenderOf (several : FilesSender) (recording : QueuedRecording) (sender : FileSender)
+    : Type 0 where
   pub connects : sender.connect ≡ several.connect
   pub named : sender.name ≡ recording.name
   pub located : string_bytes sender.source.path ≡ string_bytes recording.path

@@ -61,15 +61,17 @@ pub record ReceiptSide (F R : Type 0) : Type 1 where
   pub noted_at : F → List ℕ → Option (List ℕ)
   pub files : ReceiptGhosts R Opened
 
-abbrev pub receipt_side : {F R H : Type 0} → (F → List ℕ → Option (List ℕ)) → ReceiptGhosts R H → ReceiptSide F R
+abbrev pub receipt_side : {F R H : Type 0} → (F → List ℕ → Option (List ℕ)) → ReceiptGhosts R H →
+    ReceiptSide F R
 receipt_side {H = H} noted_at files = record { Opened = H; noted_at = noted_at; files = files }
 
--- the system, the files of recordings, the states, the spools and the receipts of their senders, how
--- files are changed in place, the locks of servers' folders, what is at each path, the disk of these
--- folders, and the process's streams
+-- the system, the files of recordings and their readers, the states, the spools and the receipts of their
+-- senders, how files are changed in place, the locks of servers' folders, what is at each path, the disk of
+-- these folders, and the process's streams
 pub record HostSide (S T F H G M SB SL KP RC J LK DK DF I O E : Type 0) : Type 1 where
   pub system : SystemGhosts S T
   pub files : FileGhosts F H G M
+  pub readers : Reader H
   pub states : StateSide F SB SL
   pub spools : SpoolSide F KP
   pub receipts : ReceiptSide F RC
@@ -82,12 +84,13 @@ pub record HostSide (S T F H G M SB SL KP RC J LK DK DF I O E : Type 0) : Type 1
   pub reported : Writer E
 
 abbrev pub host_side : {S T F H G M SB SL KP RC J LK DK DF I O E : Type 0} → SystemGhosts S T →
-    FileGhosts F H G M → StateSide F SB SL → SpoolSide F KP → ReceiptSide F RC → EditGhosts F J →
+    FileGhosts F H G M → Reader H → StateSide F SB SL → SpoolSide F KP → ReceiptSide F RC → EditGhosts F J →
     LockGhosts F LK → KindGhosts F → DiskGhosts DK DF → Reader I → Writer O → Writer E →
     HostSide S T F H G M SB SL KP RC J LK DK DF I O E
-host_side system files states spools receipts edits locks kinds disk input out reported = record {
+host_side system files readers states spools receipts edits locks kinds disk input out reported = record {
   system = system;
   files = files;
+  readers = readers;
   states = states;
   spools = spools;
   receipts = receipts;

@@ -18,11 +18,12 @@ impl<X: Environment> Behavior for Outside<X> {
     ghost use Rattle.bw_send_file.specs.FileLooks.{LooksAt};
     ghost use Rattle.bw_serve_status.specs.Shown.{status_side};
     ghost use Rattle.bw_program.specs.Programs.{DoesRequest};
-    ghost use Rattle.bw_program.specs.Sides.{host_side, kept_side, receipt_side, sender_side, server_side, spool_side, state_side, turns_side, upload_side, program_world};
+    ghost use Rattle.bw_program.specs.Sides.{host_side, kept_side, receipt_side, sender_side, server_side};
+    ghost use Rattle.bw_program.specs.Sides.{spool_side, state_side, turns_side, upload_side, program_world};
 
     // Each text goes to its stream, and commands without the network leave it alone.
     ghost does = { λ request exit x x'. DoesRequest
-        (host_side X.System.System X.Files.RecordingFiles
+        (host_side X.System.System X.Files.RecordingFiles X.Files.File.Source
         (state_side X.Files.kept_at X.Files.States.StateFiles X.Files.States.Log.StateLog)
         (spool_side X.Files.lends X.Files.Keeper.SpoolKeeper)
         (receipt_side X.Files.noted_at X.Files.Receipts.ReceiptFiles) X.Files.EditedFiles X.Files.FolderLocks

@@ -2,7 +2,8 @@
 ghost use Rattle.std.specs.Prelude.{◌≡◌, min};
 ghost use Rattle.bw_ports.specs.Purposes.{line_of};
 ghost use Rattle.bw_program.specs.PcmCommands.{spool_line};
-ghost use Rattle.bw_program.specs.PcmUploads.{IsPcmFileOf, IsPcmRecorderOf, awaited_end, file_awaited, most_in_field};
+ghost use Rattle.bw_program.specs.PcmUploads.{IsPcmFileOf, IsPcmRecorderOf, awaited_end, file_awaited};
+ghost use Rattle.bw_program.specs.PcmUploads.{most_in_field};
 ghost use Rattle.bw_program.specs.Requests.{AnySamples, ByUpload, FileSamples, SpooledSamples};
 
 use crate::behavior::Behavior;

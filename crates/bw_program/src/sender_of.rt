@@ -4,7 +4,7 @@ ghost use Rattle.bw_program.specs.SeveralCommands.{IsSenderOf, state_path, targe
 
 use bw_args::{FileSender, FilesSender, ReceiptTarget, SourceFile};
 use bw_model::Name;
-use bw_queue::{QueuedRecording, path_in};
+use bw_queue::{QueuedRecording, path_within};
 use std::alloc::{AllocError, Global};
 
 /// The sender of one of several recordings.
@@ -75,7 +75,7 @@ fn state_of(alloc: Global, several: &FilesSender, name: &Name) -> Result<Option<
         return Ok(None);
     };
     let file = state_name(alloc, name)?;
-    let path = path_in(alloc, folder.as_str(), file.as_str())?;
+    let path = path_within(alloc, folder.as_str(), file.as_str())?;
     Ok(Some(path))
 }
 

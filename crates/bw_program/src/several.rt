@@ -4,7 +4,6 @@ ghost use Rattle.bw_args.specs.declared.Task.TheVariants.{SendFiles};
 ghost use Rattle.bw_program.specs.Requests.{ByTask, ByUpload, EachRecording, NamedRecording, OneRecording};
 ghost use Rattle.bw_program.specs.SeveralCommands.{DoesInTurn, IsRequestOf, PrintsQueueLine, queue_line};
 ghost use Rattle.bw_program.specs.SeveralCommands.{receipts_path};
-ghost use Rattle.bw_report.specs.FileFindings.{worse as worse_exit};
 
 use crate::behavior::Behavior;
 use crate::outside::{Environment, Outside, ProgressObservers};
@@ -13,7 +12,8 @@ use crate::sources::send_file_asked;
 use bw_args::FilesSender;
 use bw_console::print::{give_up, print_text};
 use bw_console::{Exit, Fault};
-use bw_queue::{Queue, QueueRequest, QueuedRecording, has_receipt, open_queue};
+use bw_queue::{Queue, QueueRequest, QueuedRecording, open_queue};
+use bw_report::{has_receipt, worse};
 use bw_stream::Sink;
 use bw_take_files::Receipt;
 use std::alloc::{AllocError, Global};
@@ -124,7 +124,8 @@ impl<X: Environment> SendsOne for Outside<X> {
         observers: &mut ProgressObservers<X>,
     ) -> Exit {
         observers.go_on();
-        match has_receipt(alloc, &mut self.files, receipts, recording) {
+        let path = recording.path.as_str();
+        match has_receipt(alloc, &mut self.files, receipts, &recording.name, path) {
             Ok(true) => {
                 let Outside { out, faults, .. } = self;
                 say_line(alloc, "skipped", recording, out, faults)
@@ -135,7 +136,8 @@ impl<X: Environment> SendsOne for Outside<X> {
     }
 }
 
-/// Sends these recordings one after the other, until memory is refused. Returns the exit of the highest status.
+/// Sends these recordings one after the other, until memory is refused. Returns the exit of the highest
+/// status.
 fn send_in_turn<B: SendsOne>(
     alloc: Global,
     several: &FilesSender,
@@ -144,8 +146,9 @@ fn send_in_turn<B: SendsOne>(
     sender: &mut B,
     observers: &mut B::Observers,
 ) -> Exit
-    ensures { DoesInTurn (λ recording exit s s'. B.does (ByUpload (OneRecording several.now receipts.now recording))
-        exit s s') recordings.now result sender.old sender.new }
+    ensures { DoesInTurn (λ recording exit s s'.
+        B.does (ByUpload (OneRecording several.now receipts.now recording)) exit s s')
+        recordings.now result sender.old sender.new }
 {
     let mut worst = Exit::Done;
     for recording in recordings {
@@ -211,15 +214,4 @@ fn line_of(alloc: Global, word: &str, recording: &QueuedRecording) -> Result<Str
     };
     let path = recording.path.as_str();
     format!(in alloc; "{word} {name} {path}\n")
-}
-
-/// The one of the higher status.
-fn worse(one: Exit, other: Exit) -> Exit
-    ensures { result ≡ worse_exit one other }
-{
-    if one.status() < other.status() {
-        other
-    } else {
-        one
-    }
 }

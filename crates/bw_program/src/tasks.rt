@@ -1,6 +1,7 @@
 //! The tasks that need few parts of the outside: each is given these alone.
 ghost use Rattle.bw_layout.specs.Limits.{IsLimit};
-ghost use Rattle.bw_args.specs.declared.Task.TheVariants.{Inspect, InspectFiles, Picture, Rehearse, Repair, Replay};
+ghost use Rattle.bw_args.specs.declared.Task.TheVariants.{Inspect, InspectFiles, Picture, Rehearse, Repair};
+ghost use Rattle.bw_args.specs.declared.Task.TheVariants.{Replay};
 ghost use Rattle.bw_args.specs.declared.Task.TheVariants.{Serve as Serving};
 ghost use Rattle.bw_program.specs.Requests.{ByTask};
 

@@ -3,4 +3,3 @@ pub mod NamedLemmas
 pub mod ListingLemmas
 pub mod PlanningLemmas
 pub mod OpeningLemmas
-pub mod StoredLemmas

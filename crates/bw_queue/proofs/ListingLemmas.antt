@@ -1,5 +1,6 @@
 -- What a list of paths stands for, one more at a time.
-use Rattle.std.proofs.Common.{◌≡◌, ◌∙◌, ◌++◌, ◌∷◌, [], ◌+◌, ◌-◌, ◌<◌, ◌≤◌, ℕ, Bool, List, IsTrue, Option, ap, append_assoc, arith, drop, length, map, refl, subst, sym, take}
+use Rattle.std.proofs.Common.{◌≡◌, ◌∙◌, ◌++◌, ◌∷◌, [], ◌+◌, ◌-◌, ◌<◌, ◌≤◌, ℕ, Bool, List, IsTrue, Option, ap, append_assoc, arith, drop}
+use Rattle.std.proofs.Common.{length, map, refl, subst, sym, take}
 use mathlib.Core.Path.{fun_ext}
 use Rattle.std.proofs.lemmas.List.{append-nil, get_or-map, length-map, take_all}
 use Rattle.std.specs.Cmp.Lexicographic.{slice_cmp}

@@ -1,5 +1,6 @@
 -- Recordings with their names, one more at a time.
-use Rattle.std.proofs.Common.{◌≡◌, ◌≢◌, ◌+◌, ◌<◌, ◌≤◌, ◌++◌, ◌∷◌, [], ◌∙◌, ℕ, Bool, List, ap, arith, false, true, get_or, length, map, nat_eq, refl, rules, string_bytes, subst, sym, take}
+use Rattle.std.proofs.Common.{◌≡◌, ◌≢◌, ◌+◌, ◌<◌, ◌≤◌, ◌++◌, ◌∷◌, [], ◌∙◌, ℕ, Bool, List, ap, arith, false, true, get_or, length, map}
+use Rattle.std.proofs.Common.{nat_eq, refl, rules, string_bytes, subst, sym, take}
 use Rattle.std.specs.List.{All, AllPairs, Any}
 use Rattle.std.proofs.lemmas.List.{get_or-map, length-map, map-append, take_all, take_more}
 use Rattle.std.proofs.lemmas.List.Elements.{All-push}

@@ -1,5 +1,7 @@
 -- Lines that give a path a name, by the place of their first blank.
-use Rattle.std.proofs.Common.{inl, inr, nat_eq, map, ◌≡◌, ◌≢◌, ◌==◌, ◌+◌, ◌-◌, ◌<◌, ◌++◌, ◌∷◌, ◌&&◌, [], ◌∙◌, ℕ, Bool, List, IsTrue, Option, Some, None, ap, arith, drop, false, length, not, get_or, refl, rules, subst, sym, take, tests, true, nat_lt, append_assoc}
+use Rattle.std.proofs.Common.{inl, inr, nat_eq, map, ◌≡◌, ◌≢◌, ◌==◌, ◌+◌, ◌-◌, ◌<◌, ◌++◌, ◌∷◌, ◌&&◌, [], ◌∙◌, ℕ, Bool, List, IsTrue, Option}
+use Rattle.std.proofs.Common.{Some, None, ap, arith, drop, false, length, not, get_or, refl, rules, subst, sym, take, tests, true, nat_lt}
+use Rattle.std.proofs.Common.{append_assoc}
 use Rattle.std.specs.List.{list_all, prefix_len, position, position_or_len}
 use Rattle.std.proofs.lemmas.List.{get_or-map, length-append, take-map, take_rest, take-append-drop, drop_more}
 use Rattle.std.proofs.lemmas.List.Quantifiers.{position-Some}

@@ -1,5 +1,6 @@
 -- What several steps over a disk that stays whole result in.
-use Rattle.std.proofs.Common.{◌≡◌, ◌≢◌, ◌++◌, ◌∷◌, [], Global, List, None, Option, Result, Some, Ok, Err, Vec, inl, inr, map, refl, subst, sym, ℕ}
+use Rattle.std.proofs.Common.{◌≡◌, ◌≢◌, ◌++◌, ◌∷◌, [], Global, List, None, Option, Result, Some, Ok, Err, Vec, inl, inr, map, refl, subst}
+use Rattle.std.proofs.Common.{sym, ℕ}
 use Rattle.std.specs.Prelude.{MatchResult}
 use Rattle.std.specs.Borrow.{Bor}
 use Rattle.bw_disk.specs.DiskSteps.{StaysWhole}

@@ -7,4 +7,3 @@ pub mod QueueSides
 pub mod FolderRecordings
 pub mod Queues
 pub mod QueueOpenings
-pub mod StoredRecordings

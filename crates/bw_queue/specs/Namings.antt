@@ -1,5 +1,6 @@
 -- Files that give takes their names: a line `NAME PATH` for each.
-use Rattle.std.specs.Prelude.{◌≡◌, ◌≢◌, ◌⊎◌, ◌==◌, ◌<◌, ◌+◌, ◌++◌, ◌∷◌, [], ℕ, List, IsTrue, All, length, take}
+use Rattle.std.specs.Prelude.{◌≡◌, ◌≢◌, ◌⊎◌, ◌==◌, ◌<◌, ◌+◌, ◌++◌, ◌∷◌, [], ℕ, List, IsTrue, All, length}
+use Rattle.std.specs.Prelude.{take}
 use Rattle.std.specs.Prelude.{slice_index_or}
 use Rattle.std.specs.List.{Any, slice_split}
 use Rattle.bw_model.specs.Wire.{is_name}

@@ -23,7 +23,8 @@ no_recordings_text folder = folder ++ codes ": no recordings\n"
 
 -- of a line of a file of names
 unfoldable pub bad_naming_text : List ℕ → ℕ → List ℕ
-bad_naming_text path number = path ++ codes " line " ++ decimal number ++ codes ": not a new path with its name\n"
+bad_naming_text path number =
+    path ++ codes " line " ++ decimal number ++ codes ": not a new path with its name\n"
 
 -- of a line of a file of receipts
 unfoldable pub no_receipt_text : List ℕ → ℕ → List ℕ

@@ -70,11 +70,14 @@ IsPlanned side request (Err fault) = FaultSays (SaysRefused side request) (SaysU
 -- the same with what is reported of it
 abbrev pub EndsPlan : {E : Type 0} → Writer E → Result Queue QueueFault → Result Queue Exit → E → E → Type 0
 EndsPlan reported (Ok queue) result e e' = (result ≡ Ok queue) × (e' ≡ e)
-EndsPlan reported (Err fault) result e e' = (exit : Exit) × (result ≡ Err exit) × ReportsQueueFault reported fault exit e e'
+EndsPlan reported (Err fault) result e e' =
+    (exit : Exit) × (result ≡ Err exit) × ReportsQueueFault reported fault exit e e'
 
-module _ {F D DF E : Type 0} (kinds : KindGhosts F) (files : F) (disk : DiskGhosts D DF) (reported : Writer E) where
+module _ {F D DF E : Type 0} (kinds : KindGhosts F) (files : F) (disk : DiskGhosts D DF)
+    (reported : Writer E) where
   -- the recordings were found, or a fault was reported; nothing has changed on the disk
-  pub record PlansQueue (request : QueueRequest) (result : Result Queue Exit) (w w' : OpeningWorld D E) : Type 0 where
+  pub record PlansQueue (request : QueueRequest) (result : Result Queue Exit) (w w' : OpeningWorld D E)
+      : Type 0 where
     pub planned : Result Queue QueueFault
     pub counts : CountsUnreadPaths (IsMissing (disk_reads disk w.disk) (given_path request.names))
         (disk.failures w.disk) (disk.failures w'.disk) planned
@@ -83,7 +86,8 @@ module _ {F D DF E : Type 0} (kinds : KindGhosts F) (files : F) (disk : DiskGhos
     pub ends : EndsPlan reported planned result w.faults w'.faults
 
   -- a pipe or a device in the place of the file of names, or of that of receipts, is refused
-  abbrev pub RefusesGivenFile : QueueRequest → Result Queue Exit → OpeningWorld D E → OpeningWorld D E → Type 0
+  abbrev pub RefusesGivenFile : QueueRequest → Result Queue Exit → OpeningWorld D E → OpeningWorld D E →
+      Type 0
   RefusesGivenFile request result w w' = (exit : Exit) × (result ≡ Err exit) × (w'.disk ≡ w.disk)
       × (PassesKind (kinds.kinds files) reported (given_path request.names) (Err exit) w.faults w'.faults
       ⊎ (PassesKind (kinds.kinds files) reported (given_path request.names) (Ok tt) w.faults w.faults

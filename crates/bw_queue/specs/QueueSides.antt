@@ -31,5 +31,6 @@ queue_side kinds files disk d = record {
 abbrev pub CountsUnreadPaths : {T : Type 0} → Type 0 → ℕ → ℕ → Result T QueueFault → Type 0
 CountsUnreadPaths missing before after (Ok done) = after ≡ before
 CountsUnreadPaths missing before after (Err (Refused line)) = after ≡ before
-CountsUnreadPaths missing before after (Err (Unread line)) = (missing × (after ≡ before)) ⊎ Counts before after true
+CountsUnreadPaths missing before after (Err (Unread line)) =
+    (missing × (after ≡ before)) ⊎ Counts before after true
 CountsUnreadPaths missing before after (Err Memory) = ⊤

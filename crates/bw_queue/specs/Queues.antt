@@ -1,5 +1,6 @@
 -- The recordings that a sender of several sends, and why it sends none.
-use Rattle.std.specs.Prelude.{◌≡◌, ◌⊎◌, ℕ, List, [], Option, None, Some, length, map, option_map, string_bytes}
+use Rattle.std.specs.Prelude.{◌≡◌, ◌⊎◌, ℕ, List, [], Option, None, Some, length, map, option_map}
+use Rattle.std.specs.Prelude.{string_bytes}
 use Rattle.std.specs.Borrow.{Bor}
 use Rattle.bw_take_files.specs.declared.receipts.receipt.Receipt.{Receipt}
 use Rattle.bw_queue.specs.FolderRecordings.{EachGives, SaysEmptyFolder, SaysUnlisted, StandsForPaths}
@@ -33,7 +34,8 @@ GivesReceipts reads (Some path) receipts =
     (found : Option (List ℕ)) × reads path found × HasKept found receipts
 
 -- the recordings at these paths, named by a text, each with a name of its own
-pub record AreNamedBy (text : List ℕ) (paths : List (List ℕ)) (recordings : List QueuedRecording) : Type 0 where
+pub record AreNamedBy (text : List ℕ) (paths : List (List ℕ)) (recordings : List QueuedRecording)
+    : Type 0 where
   pub good : AreGoodBefore (length (naming_lines text)) (naming_lines text)
   pub named : AreNamed (naming_lines text) paths recordings
   pub apart : AreNamedApart recordings

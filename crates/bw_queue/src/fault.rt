@@ -1,6 +1,7 @@
 //! Why recordings aren't sent.
 ghost use Rattle.std.specs.Prelude.{◌≡◌, IfOk, List, ℕ, string_bytes};
-ghost use Rattle.bw_queue.specs.QueueFaults.{FaultSays, alike_text, bad_naming_text, nameless_text, no_receipt_text};
+ghost use Rattle.bw_queue.specs.QueueFaults.{FaultSays, alike_text, bad_naming_text, nameless_text};
+ghost use Rattle.bw_queue.specs.QueueFaults.{no_receipt_text};
 ghost use Rattle.bw_queue.specs.QueueFaults.{no_recordings_text, unreadable_text};
 
 use std::alloc::{AllocError, Global};

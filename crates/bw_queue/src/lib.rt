@@ -13,13 +13,11 @@ mod places;
 mod planning;
 mod recording;
 mod request;
-mod stored;
 
 pub use fault::QueueFault;
-pub use listing::path_in;
+pub use listing::path_within;
 pub use opening::open_queue;
 pub use path_name::name_of_path;
 pub use planning::plan_queue;
 pub use recording::QueuedRecording;
 pub use request::{Queue, QueueRequest};
-pub use stored::has_receipt;

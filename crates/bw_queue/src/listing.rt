@@ -1,5 +1,6 @@
 //! The recordings that paths stand for: those of a folder, or the path itself.
-ghost use Rattle.std.specs.Prelude.{◌≡◌, ◌≢◌, ◌↔◌, ◌++◌, ◌∷◌, [], ℕ, List, IfOk, IsTrue, MatchBool, MatchResult, OnOk, map, string_bytes};
+ghost use Rattle.std.specs.Prelude.{◌≡◌, ◌≢◌, ◌↔◌, ◌++◌, ◌∷◌, [], ℕ, List, IfOk, IsTrue, MatchBool};
+ghost use Rattle.std.specs.Prelude.{MatchResult, OnOk, map, string_bytes};
 ghost use Rattle.std.specs.Char.{to_ascii_lowercase};
 ghost use Rattle.std.specs.Cmp.Lexicographic.{slice_cmp};
 ghost use Rattle.std.specs.List.Sorted.{IsPermutation, IsSorted};
@@ -7,8 +8,10 @@ ghost use Rattle.std.specs.Ordering.{nat_cmp};
 ghost use Rattle.bw_disk.specs.DiskSteps.{StaysWhole};
 ghost use Rattle.bw_ports.specs.declared.file_kind.FileKind.TheVariants.{Folder as IsFolder};
 ghost use Rattle.bw_queue.specs.FolderRecordings.{EachGives, GivesRecording, IsEndedBy, IsRecordingName};
-ghost use Rattle.bw_queue.specs.FolderRecordings.{ListsRecordings, SaysEmptyFolder, SaysUnlisted, StandsForPaths};
-ghost use Rattle.bw_queue.specs.FolderRecordings.{is_slash_last as ends_with_slash, path_within, slash_between};
+ghost use Rattle.bw_queue.specs.FolderRecordings.{ListsRecordings, SaysEmptyFolder, SaysUnlisted};
+ghost use Rattle.bw_queue.specs.FolderRecordings.{StandsForPaths};
+ghost use Rattle.bw_queue.specs.FolderRecordings.{is_slash_last as ends_with_slash, slash_between};
+ghost use Rattle.bw_queue.specs.FolderRecordings.{path_within as path_of_file};
 ghost use Rattle.bw_queue.specs.QueueFaults.{FaultSays, no_recordings_text, unreadable_text};
 ghost use Rattle.bw_queue.specs.QueueSides.{CountsUnreadPaths, queue_side};
 
@@ -63,7 +66,8 @@ fn recordings_at<F: FileKinds, D: Volume>(
     ensures counts { CountsUnreadPaths ⊥ (D.failures disk.old) (D.failures disk.new) result }
     ensures disk { StaysWhole D.Disk disk.old disk.new }
     ensures found { MatchResult result
-        (λ own. StandsForPaths (queue_side F.FileKinds files.now D.Disk disk.old) path.now (map string_bytes own.items))
+        (λ own. StandsForPaths (queue_side F.FileKinds files.now D.Disk disk.old) path.now
+        (map string_bytes own.items))
         (FaultSays
         (λ line. F.kinds files.now path.now IsFolder
         × ListsRecordings (queue_side F.FileKinds files.now D.Disk disk.old) path.now []
@@ -172,7 +176,7 @@ fn put_recording<F: FileKinds>(
     if !is_recording_name(name) {
         return Ok(());
     }
-    let path = path_in(alloc, folder, name)?;
+    let path = path_within(alloc, folder, name)?;
     if files.kind_at(path.as_str()).is_odd(false) {
         return Ok(());
     }
@@ -188,8 +192,8 @@ fn put_recording<F: FileKinds>(
 /// # Not specified
 /// When memory is refused.
 #[tactic(auto, using(std::proofs::lemmas::List::append_assoc), unfolding(crate::specs::FolderRecordings::path_within))]
-pub fn path_in(alloc: Global, folder: &str, name: &str) -> Result<String, AllocError>
-    ensures { IfOk result (λ path. string_bytes path ≡ path_within folder.now name.now) }
+pub fn path_within(alloc: Global, folder: &str, name: &str) -> Result<String, AllocError>
+    ensures { IfOk result (λ path. string_bytes path ≡ path_of_file folder.now name.now) }
 {
     let slash = slash_after(folder);
     format!(in alloc; "{folder}{slash}{name}")

@@ -1,7 +1,9 @@
 //! Recordings are given the names of their takes.
-ghost use Rattle.std.specs.Prelude.{◌≡◌, ◌≢◌, ◌⊎◌, ◌<◌, All, IfOk, IsTrue, MatchOption, MatchResult, length, map};
+ghost use Rattle.std.specs.Prelude.{◌≡◌, ◌≢◌, ◌⊎◌, ◌<◌, All, IfOk, IsTrue, MatchOption, MatchResult, length};
+ghost use Rattle.std.specs.Prelude.{map};
 ghost use Rattle.std.specs.Prelude.{string_bytes};
-ghost use Rattle.bw_queue.specs.NamedRecordings.{AreNamedApart, AreNamed, IsNameFor, IsNameless, IsOneNamed, queued_path};
+ghost use Rattle.bw_queue.specs.NamedRecordings.{AreNamedApart, AreNamed, IsNameFor, IsNameless, IsOneNamed};
+ghost use Rattle.bw_queue.specs.NamedRecordings.{queued_path};
 ghost use Rattle.bw_queue.specs.NamedRecordings.{SaysAlike, SaysNameless};
 ghost use Rattle.bw_queue.specs.QueueFaults.{FaultSays, nameless_text};
 
@@ -43,7 +45,8 @@ fn name_recording(alloc: Global, lines: &[&[u8]], path: &str) -> Result<QueuedRe
     ensures { MatchResult result
         (λ recording. (queued_path recording ≡ path.now)
         × IsNameFor (map (λ x. x.now) lines.now) path.now recording.name)
-        (FaultSays (λ line. IsNameless (map (λ x. x.now) lines.now) path.now × (line ≡ nameless_text path.now))
+        (FaultSays (λ line. IsNameless (map (λ x. x.now) lines.now) path.now
+        × (line ≡ nameless_text path.now))
         (λ line. ⊥)) }
 {
     match name_for(alloc, lines, path)? {

@@ -1,7 +1,9 @@
 //! Files that give takes their names: a line `NAME PATH` for each.
-ghost use Rattle.std.specs.Prelude.{◌≡◌, ◌==◌, ◌<◌, ℕ, List, IfOk, MatchBool, MatchOption, IfSome, length, map};
+ghost use Rattle.std.specs.Prelude.{◌≡◌, ◌==◌, ◌<◌, ℕ, List, IfOk, MatchBool, MatchOption, IfSome, length};
+ghost use Rattle.std.specs.Prelude.{map};
 ghost use Rattle.std.specs.List.{position};
-ghost use Rattle.bw_queue.specs.Namings.{AreGoodBefore, NamesPath, GivesNone, IsFirstBadNaming, IsGoodLineAt, IsGoodNaming, IsNaming};
+ghost use Rattle.bw_queue.specs.Namings.{AreGoodBefore, NamesPath, GivesNone, IsFirstBadNaming, IsGoodLineAt};
+ghost use Rattle.bw_queue.specs.Namings.{IsGoodNaming, IsNaming};
 ghost use Rattle.bw_queue.specs.Namings.{naming_lines};
 
 use bw_model::Name;

@@ -23,7 +23,7 @@ use std::alloc::Global;
 ///
 /// # Not specified
 /// - When memory is refused.
-/// - When a disk that isn't honest fails, and what it tells.
+/// - When a disk that isn't honest fails, and what it reports.
 pub fn open_queue<F: FileKinds, D: Volume, E: Sink>(
     alloc: Global,
     request: &QueueRequest<'_>,

@@ -20,7 +20,8 @@ use std::alloc::{AllocError, Global};
 /// When memory is refused.
 #[tactic(auto, unfolding(crate::specs::PathNames::name_made))]
 pub fn name_of_path(alloc: Global, path: &str) -> Result<Option<Name>, AllocError>
-    ensures { IfOk result (λ name. SomeIff name (IsTrue (is_name (name_made path.now))) (name_made path.now)) }
+    ensures { IfOk result (λ name.
+        SomeIff name (IsTrue (is_name (name_made path.now))) (name_made path.now)) }
 {
     let mut name = Vec::new(alloc);
     for byte in stem_of(file_part(path.as_bytes())) {

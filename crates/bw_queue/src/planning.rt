@@ -4,8 +4,10 @@ ghost use Rattle.bw_disk.specs.DiskSteps.{StaysWhole};
 ghost use Rattle.bw_queue.specs.KeptReceipts.{HasBadLine, SaysAllBut, ended_lines};
 ghost use Rattle.bw_queue.specs.QueueFaults.{FaultSays, no_receipt_text, unreadable_text};
 ghost use Rattle.bw_queue.specs.QueueSides.{CountsUnreadPaths, disk_reads, queue_side};
-ghost use Rattle.bw_queue.specs.Queues.{AreNamedBy, GivesReceipts, GivesText, IsMissing, IsQueue, SaysBadReceipt};
-ghost use Rattle.bw_queue.specs.Queues.{SaysRefused, SaysUnnamed, SaysUnread, SaysUnreadable, given_path, names_path};
+ghost use Rattle.bw_queue.specs.Queues.{AreNamedBy, GivesReceipts, GivesText, IsMissing, IsQueue};
+ghost use Rattle.bw_queue.specs.Queues.{SaysBadReceipt};
+ghost use Rattle.bw_queue.specs.Queues.{SaysRefused, SaysUnnamed, SaysUnread, SaysUnreadable, given_path};
+ghost use Rattle.bw_queue.specs.Queues.{names_path};
 
 use crate::fault::{QueueFault, bad_naming, not_a_receipt, unreadable};
 use crate::kept_receipts::kept_receipts;
@@ -28,7 +30,7 @@ use std::alloc::Global;
 ///
 /// # Not specified
 /// - When memory is refused.
-/// - When a disk that isn't honest fails, and what it tells.
+/// - When a disk that isn't honest fails, and what it reports.
 pub fn plan_queue<F: FileKinds, D: Volume>(
     alloc: Global,
     request: &QueueRequest<'_>,
@@ -38,7 +40,8 @@ pub fn plan_queue<F: FileKinds, D: Volume>(
     ensures counts { CountsUnreadPaths (IsMissing (disk_reads D.Disk disk.old)
         (given_path request.now.names)) (D.failures disk.old) (D.failures disk.new) result }
     ensures disk { StaysWhole D.Disk disk.old disk.new }
-    ensures plans { MatchResult result (IsQueue (queue_side F.FileKinds files.now D.Disk disk.old) request.now)
+    ensures plans { MatchResult result
+        (IsQueue (queue_side F.FileKinds files.now D.Disk disk.old) request.now)
         (FaultSays (SaysRefused (queue_side F.FileKinds files.now D.Disk disk.old) request.now)
         (SaysUnread (queue_side F.FileKinds files.now D.Disk disk.old) request.now)) }
 {
@@ -118,7 +121,8 @@ fn receipts_at<D: Volume>(
 /// The receipts of the text of the file at a path.
 fn receipts_of(alloc: Global, path: &str, text: &[u8]) -> Result<Vec<Receipt>, QueueFault>
     ensures { MatchResult result (λ receipts. SaysAllBut text.now receipts.items) (FaultSays
-        (λ line. (number : ℕ) × HasBadLine (ended_lines text.now) number × (line ≡ no_receipt_text path.now number))
+        (λ line. (number : ℕ) × HasBadLine (ended_lines text.now) number
+        × (line ≡ no_receipt_text path.now number))
         (λ line. ⊥)) }
 {
     match kept_receipts(alloc, text) {

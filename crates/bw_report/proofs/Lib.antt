@@ -4,3 +4,5 @@ pub mod LookLemmas
 pub mod Hashed
 pub mod EntryLemmas
 pub mod ReceiptLemmas
+pub mod SampleLemmas
+pub mod StoredLemmas

@@ -2,7 +2,6 @@
 use Rattle.std.proofs.Common.{◌≡◌, ◌∙◌, ◌⊎◌, inl, inr, Bool, true, false, ℕ, List, Option, Some}
 use Rattle.std.proofs.Common.{Result, Ok, Err, IfOk, IfErr, refl, sym, ap, subst}
 use Rattle.std.specs.declared.io.ErrorKind.{ErrorKind}
-use Rattle.bw_model.specs.Report.{frames_of}
 use Rattle.bw_stream.specs.Moves.{one_more}
 use Rattle.bw_stream.specs.Readers.{Of}
 use Rattle.bw_stream.specs.declared.sink.Sink.{Ghosts as Writer}
@@ -29,10 +28,6 @@ use Rattle.bw_report.specs.declared.found.Found.{Found}
 use Rattle.bw_report.specs.declared.found.Found.TheVariants.{Read, Faulty, Unopened}
 use Rattle.bw_report.specs.declared.receipt.ReceiptJob.{ReceiptJob}
 
--- the receipt of these
-abbrev pub receipt_from : List ℕ → ℕ → List ℕ → Receipt
-receipt_from name count digest = record { name = name; frames = count; digest = digest }
-
 -- the line of a receipt, as the job has it
 pub in_json : (job : ReceiptJob) (r : Receipt) → job.json ≡ true
     → receipt_json r job.address.now job.source.now ≡ receipt_line_of job r
@@ -42,16 +37,12 @@ pub in_words : (job : ReceiptJob) (r : Receipt) → job.json ≡ false
     → receipt_text r job.address.now job.source.now ≡ receipt_line_of job r
 in_words job r is = rw is refl
 
--- the receipt of these, which is made of what is equal to them
-pub made_line : {X Y : Type 0} (made : Result X Y) (items : X → List ℕ) (job : ReceiptJob) (report : Report)
-    (name : List ℕ) (count : ℕ) (digest line : List ℕ) → name ≡ job.name.now
-    → count ≡ frames_of report.data_size report.fmt.align → line ≡ receipt_line_of job (receipt_from name count digest)
-    → IfOk made (λ x. items x ≡ line)
-    → IfOk made (λ x. items x ≡ receipt_line_of job (receipt_with job.name.now report digest))
-made_line (Ok x) items job report name count digest line names counts of is =
-    is ∙ of ∙ ap (λ (n : List ℕ). receipt_line_of job (receipt_from n count digest)) names
-    ∙ ap (λ (k : ℕ). receipt_line_of job (receipt_from job.name.now k digest)) counts
-made_line (Err y) items job report name count digest line names counts of is = tt
+-- the line of a receipt is that of an equal one
+pub made_line : {X Y : Type 0} (made : Result X Y) (items : X → List ℕ) (job : ReceiptJob) (one other : Receipt)
+    (line : List ℕ) → one ≡ other → line ≡ receipt_line_of job one → IfOk made (λ x. items x ≡ line)
+    → IfOk made (λ x. items x ≡ receipt_line_of job other)
+made_line (Ok x) items job one other line same of is = is ∙ of ∙ ap (receipt_line_of job) same
+made_line (Err y) items job one other line same of is = tt
 
 -- a line that was made of the report and the digest of these bytes is that of the recording
 pub is_line : (job : ReceiptJob) (b : List ℕ) (report : Report) (digest line : List ℕ)
@@ -171,14 +162,15 @@ module _ {R F : Type 0} (receipts : Keeper R F) (opened : Option F) (file : F) (
       (receipts.receipts_at new (receipts.path_of file))
       → ReportsFailure (unwritten_receipt_text asked) kind did ⊎ IsOutOfMemory did
       → PutsLine receipts opened asked line old new did
-  appended_in_part kind did failures adds reports = subst (λ (o : Option F). PutsLine receipts o asked line old new did) (sym there) (inr (record {
-    adds = subst (λ (t : List ℕ). AddsLineInPart (receipts.receipts_at old (receipts.path_of file)) t
-        (receipts.receipts_at new (receipts.path_of file))) same adds;
-    others = others;
-    failures = failures;
-    kind = kind;
-    reports = reports;
-  }))
+  appended_in_part kind did failures adds reports =
+      subst (λ (o : Option F). PutsLine receipts o asked line old new did) (sym there) (inr (record {
+        adds = subst (λ (t : List ℕ). AddsLineInPart (receipts.receipts_at old (receipts.path_of file)) t
+            (receipts.receipts_at new (receipts.path_of file))) same adds;
+        others = others;
+        failures = failures;
+        kind = kind;
+        reports = reports;
+      }))
 
 -- nothing is printed where the system failed to add a line
 pub none_printed : (line : List ℕ → List ℕ) (kind : ErrorKind) (did : Outcome)

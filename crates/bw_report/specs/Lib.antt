@@ -11,3 +11,4 @@ pub mod Entries
 pub mod FileLooks
 pub mod Inputs
 pub mod Receipts
+pub mod StoredRecordings

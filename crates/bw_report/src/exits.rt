@@ -17,8 +17,8 @@ pub(crate) fn exit_on(kind: InspectKind) -> Exit
     }
 }
 
-/// The one of the higher status.
-pub(crate) fn worse(one: Exit, other: Exit) -> Exit
+/// The exit of the higher status; the first, if both have one.
+pub fn worse(one: Exit, other: Exit) -> Exit
     ensures { result ≡ worse one other }
 {
     if one.status() < other.status() {

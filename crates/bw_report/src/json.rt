@@ -6,7 +6,8 @@ ghost use Rattle.serde_json.specs.Written.{compact_text};
 ghost use Rattle.bw_inspect.specs.Reports.{reported_by};
 ghost use Rattle.bw_report.specs.Objects.{fault_data, report_data, with_fault, without_format};
 ghost use Rattle.bw_report.specs.Objects.{with_contents, without_parts};
-ghost use Rattle.bw_report.specs.Objects.{with_form_and_format, with_placed_parts, with_placed_samples, with_whole_file};
+ghost use Rattle.bw_report.specs.Objects.{with_form_and_format, with_placed_parts, with_placed_samples};
+ghost use Rattle.bw_report.specs.Objects.{with_whole_file};
 ghost use Rattle.bw_report.specs.Values.{hex_or_null};
 ghost use Rattle.bw_report.specs.Entries.{found_data};
 

@@ -55,16 +55,23 @@ impl ReceiptJob<'_> {
         ensures { IfOk result (λ line. line.items
             ≡ receipt_line_of self.now (receipt_with self.now.name.now report.now digest)) }
     {
-        let receipt = Receipt {
-            name: self.name.copy(),
-            frames: whole_frames(report.data_size, report.fmt.align),
-            digest,
-        };
+        let receipt = receipt_under(self.name, report, digest);
         if self.json {
             receipt_json(alloc, &receipt, self.address, self.source)
         } else {
             receipt_line(alloc, &receipt, self.address, self.source)
         }
+    }
+}
+
+/// The receipt of a recording under a name, which has this report and this SHA-256 of its samples.
+pub(crate) fn receipt_under(name: &Name, report: &Report, digest: [u8; 32]) -> Receipt
+    ensures { result ≡ receipt_with name.now report.now digest }
+{
+    Receipt {
+        name: name.copy(),
+        frames: whole_frames(report.data_size, report.fmt.align),
+        digest,
     }
 }
 

@@ -1,5 +1,7 @@
-use Rattle.std.proofs.Common.{◌≡◌, length, take, arith, rules}
+use Rattle.std.proofs.Common.{◌≡◌, ◌∙◌, length, take, arith, ap, rules, Err}
 use Rattle.std.proofs.lemmas.Grind.{common_steps}
+use Rattle.std.proofs.lemmas.Result.{err_from_is_err_and}
+use Rattle.bw_inspect.specs.Faults.{counted}
 use Rattle.sha2.specs.Hashers.{Holds256}
 use Rattle.bw_report.proofs.Hashed.{hashed, left_after}
 use Rattle.bw_report.proofs.digest.digest_from.Goals as goal
@@ -12,6 +14,7 @@ loop-done-preserved g c =
     record {
       within = search rules;
       len = search rules;
+      failures = c.in_ok-read_at.ensures.consumed.failures ∙ c.loop-done.invariant.failures;
       held = λ b e.
           let h = c.loop-done.invariant.held b e in
           let r = c.in_ok-read_at.ensures.ok b h.1 in (
@@ -19,3 +22,9 @@ loop-done-preserved g c =
             left_after _ b _ _ _ _ room r.rest,
           );
     }
+
+pub returns-in_err-read_at-clause-count : goal.returns-in_err-read_at-clause-count
+returns-in_err-read_at-clause-count g c =
+    let answer = err_from_is_err_and c.from_residual.result c.from_residual.ensures.1 in
+    rw (answer.1, answer.2) (c.in_err-read_at.ensures.consumed.failures
+    ∙ ap (counted {X = Unit {0}} (Err c.in_err-read_at.field-0.0)) c.loop-done.invariant.failures)

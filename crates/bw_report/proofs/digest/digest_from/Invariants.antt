@@ -8,6 +8,7 @@ abbrev pub invariant-loop-done : goal.invariant-loop-done
 invariant-loop-done g l = record {
   within : l.done ≤ l.size;
   len : length l.piece ≡ 65536;
+  failures : g.R.Source.failures l.reader ≡ g.R.Source.failures l.fn.reader;
   held : AtPlace (g.R.Source.left l.fn.reader) l.place (λ b.
       Holds256 l.hasher (slice_range b l.place (l.place + l.done))
       × (g.R.Source.left l.reader ≡ Some (drop (l.place + l.done) b)));

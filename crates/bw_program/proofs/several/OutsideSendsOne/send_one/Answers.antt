@@ -7,7 +7,7 @@ returns-in-Ok-true g c = record {
     files = c.has_receipt.new.files;
     unchanged = c.in-Ok-true.ensures.files;
     found = Ok true;
-    has = rw c.in-Ok-true.field-0-test at c.in-Ok-true.ensures.has;
+    has = rw (c.as_str-path.ensures.value, c.in-Ok-true.field-0-test) at c.in-Ok-true.ensures.has;
     ends = record { out = c.say_line.new.out; faults = c.say_line.new.faults; says = c.say_line.ensures; alone = refl };
   };
   well = refl;
@@ -23,7 +23,7 @@ returns-in-Ok-false g c =
         files = c.has_receipt.new.files;
         unchanged = c.in-Ok-false.ensures.files;
         found = Ok false;
-        has = rw c.in-Ok-false.field-0-test at c.in-Ok-false.ensures.has;
+        has = rw (c.as_str-path.ensures.value, c.in-Ok-false.field-0-test) at c.in-Ok-false.ensures.has;
         ends = sent.sent;
       };
       well = sent.well;

@@ -1,6 +1,6 @@
 use Rattle.std.proofs.Common.{◌≢◌, take}
 use Rattle.std.specs.List.{All}
-use Rattle.bw_queue.proofs.stored.is_named.Given as goal
+use Rattle.bw_report.proofs.stored.is_named.Given as goal
 
 -- none so far has the name
 abbrev pub invariant-loop-kept : goal.invariant-loop-kept
