@@ -9,6 +9,7 @@ use Rattle.bw_recovery.specs.Names.{name_fault}
 use Rattle.bw_recovery.specs.Paths.{notes_path}
 use Rattle.bw_recovery.specs.StaysLeft.{StaysLeft}
 use Rattle.bw_recovery.specs.declared.finding.Finding.{Finding}
+use Rattle.bw_folder.specs.FolderDisks.{AreOfOneFolder}
 use Rattle.bw_folder.specs.TakeFolders.{takes_disk, takes_folder, take_in_folder}
 use Rattle.bw_folder.specs.JournalFolders.{journals_disk, noted_in_folder}
 use Rattle.bw_folder.specs.declared.folder.FolderStore.{FolderStore}
@@ -37,6 +38,11 @@ module _ {D E F H : Type 0} {G : Ghosts D F} {K : Ghosts E H} where
       Type 0
   FindsIn limit name store journal found =
       FindsName limit name (noted_in_folder journal name) (take_in_folder store name) found
+
+  -- this holds with each limit with which this finding is that of the name in the folder
+  abbrev pub OnceFound : List ℕ → Finding → FolderStore D F G → FolderJournal E H K → (ℕ → Type 0) → Type 0
+  OnceFound name finding store journal holds = AreOfOneFolder store journal → (limit : ℕ) →
+      FindsIn limit name store journal (Some finding) → holds limit
 
   -- a name in the folder has the journal and the file that it is to have
   abbrev pub RestoresIn : ℕ → List ℕ → FolderStore D F G → FolderJournal E H K →

@@ -70,9 +70,9 @@ pub(crate) fn close_files<D: Volume, E: Volume>(
     server.lend_stores(&mut visitor);
 }
 
-/// Recovers a name that isn't in the table from its folder, when nothing is pending. A new name is put off if the disks of
-/// store and journal don't show alike whether it has a file: what its journal would say of that
-/// isn't known then.
+/// Recovers a name that isn't in the table from its folder, when nothing is pending. A new name is put
+/// off if the disks of store and journal don't show alike whether it has a file: what its journal would
+/// say of that isn't known then.
 ///
 /// # Errors
 /// Why its frame is put off: a call of a disk failed, memory was refused, too many numbers are done, or

@@ -1,5 +1,5 @@
 //! What a stop left of a name in a folder, and mending it, on the disks of a store and of a journal.
-ghost use Rattle.std.specs.Prelude.{◌≡◌, ◌↔◌, ℕ, Some, IsTrue, IfOk, OnOk, is_some};
+ghost use Rattle.std.specs.Prelude.{◌≡◌, ◌↔◌, IsTrue, IfOk, OnOk, is_some};
 ghost use Rattle.bw_store.specs.Stores.{KeepsOthers};
 ghost use Rattle.bw_disk.specs.DiskSteps.{StaysWhole};
 ghost use Rattle.bw_disk.specs.Volumes.{KeepsEach};
@@ -8,7 +8,7 @@ ghost use Rattle.bw_recovery.specs.Restorings.{is_refused};
 ghost use Rattle.bw_folder.specs.TakeFolders.{takes_disk};
 ghost use Rattle.bw_folder.specs.JournalFolders.{journals_disk, noted_in_folder};
 ghost use Rattle.bw_folder.specs.FolderDisks.{AreOfOneFolder, KeepsFolderJournal, KeepsStore, ShowsAlike};
-ghost use Rattle.bw_kept.specs.RecoveredNames.{FindsIn, RestoresIn, StaysLeftIn, ChangesName};
+ghost use Rattle.bw_kept.specs.RecoveredNames.{FindsIn, OnceFound, RestoresIn, StaysLeftIn, ChangesName};
 ghost use Rattle.bw_kept.specs.RecoveredNames.{CountsIn, CountsUnlessCrowded};
 
 use crate::on_disks::{Comparing, Looking, Restoring};
@@ -83,13 +83,11 @@ pub(crate) fn restore_in_folder<D: Volume, E: Volume>(
     ensures store { KeepsStore store.old store.new }
     ensures journal { KeepsFolderJournal journal.old journal.new }
     // A name that isn't refused has the journal and the file that it is to have.
-    ensures restored { AreOfOneFolder store.old journal.old → (limit : ℕ) →
-        FindsIn limit name.now store.old journal.old (Some finding.now) →
-        OnOk result (RestoresIn limit name.now store.old journal.old store.new journal.new) }
+    ensures restored { OnceFound name.now finding.now store.old journal.old (λ limit.
+        OnOk result (RestoresIn limit name.now store.old journal.old store.new journal.new)) }
     // Whatever was left of the name stays so, after a failed call and on success.
-    ensures left { AreOfOneFolder store.old journal.old → (limit : ℕ) →
-        FindsIn limit name.now store.old journal.old (Some finding.now) →
-        StaysLeftIn limit name.now store.old journal.old store.new journal.new }
+    ensures left { OnceFound name.now finding.now store.old journal.old (λ limit.
+        StaysLeftIn limit name.now store.old journal.old store.new journal.new) }
     // Each other path has what it had, on errors too.
     ensures others { AreOfOneFolder store.old journal.old →
         ChangesName name.now store.old journal.old store.new journal.new }
@@ -99,9 +97,8 @@ pub(crate) fn restore_in_folder<D: Volume, E: Volume>(
     ensures refused { IsTrue (is_refused finding.now) → (takes_disk store.new ≡ takes_disk store.old)
         × (journals_disk journal.new ≡ journals_disk journal.old) }
     // `Disk` is a call that failed, unless each path for a file that is set aside is taken.
-    ensures failures { AreOfOneFolder store.old journal.old → (limit : ℕ) →
-        FindsIn limit name.now store.old journal.old (Some finding.now) → CountsUnlessCrowded
-        name.now store.old journal.old store.new journal.new (is_disk_fault result) }
+    ensures failures { OnceFound name.now finding.now store.old journal.old (λ limit. CountsUnlessCrowded
+        name.now store.old journal.old store.new journal.new (is_disk_fault result)) }
 {
     if journal.awaits_commit() {
         return Err(ReadFault::Memory);
