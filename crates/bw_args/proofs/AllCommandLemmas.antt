@@ -8,6 +8,7 @@ use Rattle.bw_args.proofs.ConvertLemmas.{runs_convert}
 use Rattle.bw_args.proofs.FileLemmas.{refuses_files, runs_file_sender, runs_pack}
 use Rattle.bw_args.proofs.FolderLemmas.{runs_takes}
 use Rattle.bw_args.proofs.FormLemmas.{runs_replay}
+use Rattle.bw_args.proofs.GrowingLemmas.{refuses_follower, runs_follower}
 use Rattle.bw_args.proofs.InspectLemmas.{runs_inspect}
 use Rattle.bw_args.proofs.JoinLemmas.{runs_join}
 use Rattle.bw_args.proofs.PcmLemmas.{refuses_samples, runs_pcm_sender}
@@ -29,6 +30,7 @@ runs_commands words line is = record {
   send = runs_sender words line is;
   send_file = runs_file_sender words line is;
   send_pcm = runs_pcm_sender words line is;
+  follow = runs_follower words line is;
   send_files = runs_files_sender words line is;
   pack = runs_pack words line is;
   picture = runs_picture words line is;
@@ -45,5 +47,6 @@ refuses_lines words line is = record {
   wanted = wants_peers words line is;
   files = refuses_files words line is;
   samples = refuses_samples words line is;
+  growing = refuses_follower words line is;
   several = refuses_several words line is;
 }

@@ -29,7 +29,7 @@ use Rattle.bw_args.specs.Lines.{FileUpload, IsTakenLine, Wish, is_nameless, look
 use Rattle.bw_args.specs.Lines.{Replaying, Rehearsing, Inspecting, Packing, Sending, SendingFiles, SendingPcm, Serving}
 use Rattle.bw_args.specs.Lines.{Uploading, PcmUpload, looked_at_samples, InspectingFiles, Repairing, Listing, Verifying, Picturing}
 use Rattle.bw_args.specs.PcmSources.{GivesFormat, GivesSamples, PlainPcm, fruitless_of, is_live, is_unpaired}
-use Rattle.bw_args.specs.PcmSources.{samples_with}
+use Rattle.bw_args.specs.PcmSources.{described_samples, header_samples, samples_with}
 use Rattle.bw_args.specs.declared.commands.samples.WrittenFormat.{WrittenFormat}
 use Rattle.bw_args.specs.Numbers.{IsLimitValue, default_fruitless, default_rounds, default_timeout, most_exchanges}
 use Rattle.bw_args.specs.Numbers.{most_block, most_fruitless, most_rate, most_recorders, most_rounds, most_seconds}
@@ -83,7 +83,8 @@ AllGood (value ∷ values) given = IsGood value given × AllGood values given
 -- if neither a receipt nor its form is given, they go together
 no_receipt : (given : Text → Option Text) (receipt : Option Text) (left json others : Bool)
     → (is_some receipt || (left || (json || others))) ≡ false
-    → (if is_some receipt then is_some (given (codes "pcm")) || is_some (given (codes "spool")) else json) ≡ false
+    → (if is_some receipt then is_some (given (codes "pcm"))
+    || (is_some (given (codes "spool")) || is_set (given (codes "follow"))) else json) ≡ false
 no_receipt given (Some text) left json others none = let bad : true ≡ false = none in cc
 no_receipt given None true json others none = let bad : true ≡ false = none in cc
 no_receipt given None false true others none = none
@@ -166,19 +167,49 @@ samples_good given samples g = ((g.format, g.formatted), ((g.skip, g.begins), ((
 pub no_samples : (given : Text → Option Text) (samples : Option PlainPcm) → path_given given ≡ None
     → GivesSamples given samples → GivesSamples given None
 no_samples given samples none g =
-    let format : g.format ≡ None =
+    let format : (g.format ≡ None) × (is_set (given (codes "follow")) ≡ false) =
     go (given (codes "pcm")) (path_given given) g.format none g.formatted g.unmixed in
     let same : samples ≡ None =
-    g.are ∙ ap (option_map (samples_with g.skip g.block (given (codes "until")) (is_some (given (codes "spool"))))) format in
+    g.are ∙ ap (λ (f : Option WrittenFormat). described_samples (samples_with g.skip g.block (given (codes "until"))
+    (given (codes "marks")) (is_some (given (codes "spool"))) (not (is_set (given (codes "no-defaults")))))
+    (is_set (given (codes "follow"))) (given (codes "until")) f) format.0
+    ∙ unfollowed (samples_with g.skip g.block (given (codes "until")) (given (codes "marks"))
+    (is_some (given (codes "spool"))) (not (is_set (given (codes "no-defaults")))))
+    (is_set (given (codes "follow"))) (given (codes "until")) format.1 in
     subst (GivesSamples given) same g
   where
+    unfollowed : (with : WrittenFormat → PlainPcm) (follows : Bool) (until : Option Text) → follows ≡ false
+        → described_samples with follows until None ≡ None
+    unfollowed with true until is = let bad : true ≡ false = is in cc
+    unfollowed with false until is = refl
+
+    last : (skip block spool : Option Text) (bare : Bool) (marks file : Option Text) (follows : Bool)
+        (others until : Bool) → file ≡ None
+        → (is_some skip || (is_some block || (is_some spool || (bare || (is_some marks
+        || (if follows then not (is_some file) || others else until)))))) ≡ false
+        → follows ≡ false
+    last (Some text) block spool bare marks file follows others until none unmixed = let bad : true ≡ false = unmixed in cc
+    last None (Some text) spool bare marks file follows others until none unmixed = let bad : true ≡ false = unmixed in cc
+    last None None (Some text) bare marks file follows others until none unmixed = let bad : true ≡ false = unmixed in cc
+    last None None None true marks file follows others until none unmixed = let bad : true ≡ false = unmixed in cc
+    last None None None false (Some text) file follows others until none unmixed = let bad : true ≡ false = unmixed in cc
+    last None None None false None file false others until none unmixed = refl
+    last None None None false None None true others until none unmixed = let bad : true ≡ false = unmixed in cc
+    last None None None false None (Some path) true others until none unmixed = let bad : Some path ≡ None = none in cc
+
     go : (pcm file : Option Text) (format : Option WrittenFormat) → file ≡ None → GivesFormat pcm format
         → (if is_some pcm then not (is_some file) || (is_some (given (codes "state")) || is_unpaired given)
-        else (is_some (given (codes "skip")) || (is_some (given (codes "block"))
-        || (is_set (given (codes "follow")) || (is_some (given (codes "until"))
-        || is_some (given (codes "spool"))))))) ≡ false
-        → format ≡ None
-    go None file format is gives unmixed = gives
+        else (is_some (given (codes "skip")) || (is_some (given (codes "block")) || (is_some (given (codes "spool"))
+        || (is_set (given (codes "no-defaults")) || (is_some (given (codes "marks"))
+        || (if is_set (given (codes "follow")) then not (is_some file) || (is_some (given (codes "state"))
+        || (is_set (given (codes "strict")) || is_set (given (codes "strict-texts"))))
+        else is_some (given (codes "until"))))))))) ≡ false
+        → (format ≡ None) × (is_set (given (codes "follow")) ≡ false)
+    go None file format is gives unmixed = (
+      gives,
+      last (given (codes "skip")) (given (codes "block")) (given (codes "spool")) (is_set (given (codes "no-defaults")))
+          (given (codes "marks")) file (is_set (given (codes "follow"))) _ _ is unmixed,
+    )
     go (Some text) (Some path) format is gives unmixed = let bad : Some path ≡ None = is in cc
     go (Some text) None format is gives unmixed = let bad : true ≡ false = unmixed in cc
 
@@ -996,15 +1027,20 @@ given_fruitless true count n within is = subst (IsWithin most_fruitless) (sym is
 
 given_block : (given : Text → Option Text) (pcm : PlainPcm) → GivesSamples given (Some pcm)
     → IsWithin most_block pcm.block
-given_block given pcm g = go g.format g.are
+given_block given pcm g = go g.format (is_set (given (codes "follow"))) g.are
   where
-    go : (format : Option WrittenFormat)
-        → Some pcm ≡ option_map
-        (samples_with g.skip g.block (given (codes "until")) (is_some (given (codes "spool")))) format
+    go : (format : Option WrittenFormat) (follows : Bool)
+        → Some pcm ≡ described_samples
+        (samples_with g.skip g.block (given (codes "until")) (given (codes "marks")) (is_some (given (codes "spool")))
+        (not (is_set (given (codes "no-defaults"))))) follows (given (codes "until")) format
         → IsWithin most_block pcm.block
-    go None is = let bad : Some pcm ≡ None = is in cc
-    go (Some f) is =
-        let same : pcm ≡ samples_with g.skip g.block (given (codes "until")) (is_some (given (codes "spool"))) f = cc in
+    go None false is = let bad : Some pcm ≡ None = is in cc
+    go None true is =
+        let same : pcm ≡ header_samples (given (codes "until")) = cc in
+        subst (IsWithin most_block) (ap (λ (p : PlainPcm). p.block) (sym same)) tt
+    go (Some f) follows is =
+        let same : pcm ≡ samples_with g.skip g.block (given (codes "until")) (given (codes "marks"))
+        (is_some (given (codes "spool"))) (not (is_set (given (codes "no-defaults")))) f = cc in
         subst (IsWithin most_block) (ap (λ (p : PlainPcm). p.block) (sym same))
         (given_count most_block (given (codes "block")) g.block g.blocks)
 

@@ -16,6 +16,7 @@ pub mod UploadLemmas
 pub mod LeftOutLemmas
 pub mod FileLemmas
 pub mod PcmLemmas
+pub mod GrowingLemmas
 pub mod PictureLemmas
 pub mod RepairLemmas
 pub mod ConvertAsked

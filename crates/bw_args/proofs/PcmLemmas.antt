@@ -20,7 +20,7 @@ use Rattle.bw_args.proofs.Asked.{bad, ◌and_then◌}
 use Rattle.bw_args.proofs.ValueLemmas.{LacksSender, not_mixed, nothing, reported}
 
 -- what of a sender of samples is given says it
-pcm_by : {options : List Row} {sender : PcmUpload} (count : Option ℕ)
+pub pcm_by : {options : List Row} {sender : PcmUpload} (count : Option ℕ)
     → GivesCount most_fruitless (given_on_line options (codes "fruitless")) count
     → sender.fruitless ≡ fruitless_of (is_live sender.pcm) count → GivesSamples (given_on_line options) (Some sender.pcm)
     → GivesAddress (is_set (given_on_line options (codes "network"))) (given_on_line options (codes "connect"))
@@ -133,6 +133,21 @@ spool_sends path text format given program connect name address at named =
           (None, refl, refl) refl refl refl refl,
     )
 
+marks_sends : (path text marks : Text) (format : WrittenFormat) → IsFormatText text format
+    → AsksSender false (with_spool path text ((codes "--marks=" ++ marks) ∷ []))
+    (λ a n. SendingPcm (record (plain_pcm_upload a n path format) {
+      pcm = record (plain_pcm_upload a n path format).pcm { is_spooled = true; marks = Some marks };
+      fruitless = None;
+    }))
+unfolding clap_on_literals
+marks_sends path text marks format given program connect name address at named =
+    asks refl (
+      refl,
+      pcm_by None refl refl (samples_by (Some format) None None given refl refl refl refl) at (named, refl)
+          (record { from = refl; sets = refl; refuses = refl; refuses_texts = refl; keeps = refl; kept = refl })
+          (None, refl, refl) refl refl refl refl,
+    )
+
 rate_sends : (path text bytes : Text) (format : WrittenFormat) → IsFormatText text format
     → IsCountText most_rate bytes → AsksSender false (with_pcm path text ((codes "--rate=" ++ bytes) ∷ []))
     (λ a n. SendingPcm (record (plain_pcm_upload a n path format) { rate = Some (number_written bytes) }))
@@ -143,6 +158,19 @@ rate_sends path text bytes format given number program connect name address at n
       pcm_by None refl refl (samples_by (Some format) None None given refl refl refl refl) at (named, refl)
           (record { from = refl; sets = refl; refuses = refl; refuses_texts = refl; keeps = refl; kept = refl })
           (None, refl, refl) refl (number, refl) refl refl,
+    )
+
+no_defaults_sends : (path text : Text) (format : WrittenFormat) → IsFormatText text format
+    → AsksSender false (with_pcm path text (codes "--no-defaults" ∷ []))
+    (λ a n. SendingPcm (record (plain_pcm_upload a n path format)
+    { pcm = record (plain_pcm_upload a n path format).pcm { defaults = false } }))
+unfolding clap_on_literals
+no_defaults_sends path text format given program connect name address at named =
+    asks refl (
+      refl,
+      pcm_by None refl refl (samples_by (Some format) None None given refl refl refl refl) at (named, refl)
+          (record { from = refl; sets = refl; refuses = refl; refuses_texts = refl; keeps = refl; kept = refl })
+          (None, refl, refl) refl refl refl refl,
     )
 
 pub runs_pcm_sender : (words : List Text) (line : CommandLine) → IsLineOf words line → RunsPcmSender words line
@@ -158,6 +186,10 @@ runs_pcm_sender words line is = record {
       (fruitless_sends f t u k m given number p c n a at named);
   spool = λ f t m given p c n a at named e. asked_runs words _ line _ is e
       (spool_sends f t m given p c n a at named);
+  no_defaults = λ f t m given p c n a at named e. asked_runs words _ line _ is e
+      (no_defaults_sends f t m given p c n a at named);
+  marks = λ f t k m given p c n a at named e. asked_runs words _ line _ is e
+      (marks_sends f t k m given p c n a at named);
   rate = λ f t b m given number p c n a at named e. asked_runs words _ line _ is e
       (rate_sends f t b m given number p c n a at named);
 }
@@ -223,6 +255,16 @@ mixed_until : (path text end : Text) (format : WrittenFormat) → IsFormatText t
     → LacksSender (with_pcm path text ((codes "--until=" ++ end) ∷ [])) MixedSamples
 unfolding clap_on_literals
 mixed_until path text end format given program connect name address at named = (
+  refl,
+  (address, at) and_then (name, (named, refl)) and_then nothing and_then nothing and_then nothing
+      and_then nothing and_then refl and_then refl and_then refl
+      and_then (Some format, given) and_then nothing and_then nothing and_then bad not_mixed,
+)
+
+mixed_marks : (path text marks : Text) (format : WrittenFormat) → IsFormatText text format
+    → LacksSender (with_pcm path text ((codes "--marks=" ++ marks) ∷ [])) MixedSamples
+unfolding clap_on_literals
+mixed_marks path text marks format given program connect name address at named = (
   refl,
   (address, at) and_then (name, (named, refl)) and_then nothing and_then nothing and_then nothing
       and_then nothing and_then refl and_then refl and_then refl
@@ -315,6 +357,16 @@ mixed_skip path bytes number program connect name address at named = (
       and_then bad not_mixed,
 )
 
+mixed_defaults : (path : Text)
+    → LacksSender (with_file path (codes "--no-defaults" ∷ [])) MixedSamples
+unfolding clap_on_literals
+mixed_defaults path program connect name address at named = (
+  refl,
+  (address, at) and_then (name, (named, refl)) and_then nothing and_then nothing and_then nothing
+      and_then nothing and_then refl and_then refl and_then refl
+      and_then nothing and_then nothing and_then nothing and_then bad not_mixed,
+)
+
 pub refuses_samples : (words : List Text) (line : CommandLine) → IsLineOf words line → RefusesSamples words line
 refuses_samples words line is = record {
   format = λ f t none p c n a at named e. reported words _ line Pcm is e (bad_format f t none p c n a at named);
@@ -328,6 +380,8 @@ refuses_samples words line is = record {
       (mixed_follow f t m given p c n a at named);
   until = λ f t u m given p c n a at named e. reported words _ line MixedSamples is e
       (mixed_until f t u m given p c n a at named);
+  marks = λ f t u m given p c n a at named e. reported words _ line MixedSamples is e
+      (mixed_marks f t u m given p c n a at named);
   state = λ f t s m given p c n a at named e. reported words _ line MixedSamples is e
       (mixed_state f t s m given p c n a at named);
   receipt = λ f t r m given p c n a at named e. reported words _ line Receipt is e
@@ -344,6 +398,8 @@ refuses_samples words line is = record {
       (mixed_ends f t u m given p c n a at named);
   unformatted = λ f p c n a at named e. reported words _ line MixedSamples is e
       (mixed_spool f p c n a at named);
+  no_defaults = λ f p c n a at named e. reported words _ line MixedSamples is e
+      (mixed_defaults f p c n a at named);
   formatless = λ f b number p c n a at named e. reported words _ line MixedSamples is e
       (mixed_skip f b number p c n a at named);
 }

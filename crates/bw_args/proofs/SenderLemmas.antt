@@ -1,6 +1,6 @@
 -- The forms of `send`, at values that are not known.
 use Rattle.std.proofs.Common.{◌≡◌, ℕ, Bool, List, [], ◌∷◌, ◌++◌, false, true, Option, Some, None, codes, refl, subst, sym}
-use Rattle.std.specs.Prelude.{is_some, option_map}
+use Rattle.std.specs.Prelude.{is_some, not}
 use Rattle.std.specs.declared.net.socket_addr.SocketAddr.{SocketAddr}
 use Rattle.std.specs.Net.Socket.{socket_port}
 use Rattle.clap.specs.Words.{Text}
@@ -10,6 +10,7 @@ use Rattle.bw_args.specs.Numbers.{IsCountText, IsNumber, most_block, most_rounds
 use Rattle.bw_args.specs.ReadWords.{as_read}
 use Rattle.bw_args.specs.Sources.{is_mixed, path_given}
 use Rattle.bw_args.specs.PcmSources.{GivesFormat, GivesNumber, GivesSamples, PlainPcm, are_samples_mixed, samples_with}
+use Rattle.bw_args.specs.PcmSources.{described_samples}
 use Rattle.bw_args.specs.Lines.{AsksFor, GivesAddress, GivesCount, GivesName, GivesRounds, GivesSender, IsLineOf, IsName}
 use Rattle.bw_args.specs.Lines.{Sending, Wish, is_set}
 use Rattle.bw_args.specs.PeerForms.{RunsSender, plain_sender, sending}
@@ -23,7 +24,9 @@ use Rattle.bw_args.proofs.ServerLemmas.{IsReadApart, asks_apart, by_number}
 pub samples_by : {given : Text → Option Text} {samples : Option PlainPcm} (format : Option WrittenFormat)
     (skip block : Option ℕ) → GivesFormat (given (codes "pcm")) format → GivesNumber (given (codes "skip")) skip
     → GivesCount most_block (given (codes "block")) block → are_samples_mixed given ≡ false
-    → samples ≡ option_map (samples_with skip block (given (codes "until")) (is_some (given (codes "spool")))) format
+    → samples ≡ described_samples (samples_with skip block (given (codes "until")) (given (codes "marks"))
+    (is_some (given (codes "spool"))) (not (is_set (given (codes "no-defaults")))))
+    (is_set (given (codes "follow"))) (given (codes "until")) format
     → GivesSamples given samples
 samples_by format skip block formatted begins blocks unmixed are = record {
   format = format;

@@ -203,16 +203,22 @@ timeout_asks : (seconds : Text) → IsCountText most_seconds seconds → AsksFil
 unfolding clap_on_literals
 timeout_asks seconds is program connect path address at plain = send_asks program
     (literal (codes "--connect=" ++ connect) ∷ literal (codes "--timeout=" ++ seconds) ∷ unknown path ∷ [])
-    (tt, (tt, (plain, tt))) (refl, (refl, (plain, tt))) refl
-    (refl, files_by (Some (number_written seconds), (is, refl), refl) (None, refl, refl) at refl refl refl refl refl refl refl refl refl refl refl refl)
+    (tt, (tt, (plain, tt))) (refl, (refl, (plain, tt))) refl (
+      refl,
+      files_by (Some (number_written seconds), (is, refl), refl) (None, refl, refl) at
+          refl refl refl refl refl refl refl refl refl refl refl refl,
+    )
 
 fruitless_asks : (count : Text) → IsCountText most_fruitless count → AsksFiles false ((codes "--fruitless=" ++ count) ∷ [])
     (λ a p. SendingFiles (record (plain_files a (p ∷ [])) { fruitless = number_written count }))
 unfolding clap_on_literals
 fruitless_asks count is program connect path address at plain = send_asks program
     (literal (codes "--connect=" ++ connect) ∷ literal (codes "--fruitless=" ++ count) ∷ unknown path ∷ [])
-    (tt, (tt, (plain, tt))) (refl, (refl, (plain, tt))) refl
-    (refl, files_by (None, refl, refl) (Some (number_written count), (is, refl), refl) at refl refl refl refl refl refl refl refl refl refl refl refl)
+    (tt, (tt, (plain, tt))) (refl, (refl, (plain, tt))) refl (
+      refl,
+      files_by (None, refl, refl) (Some (number_written count), (is, refl), refl) at
+          refl refl refl refl refl refl refl refl refl refl refl refl,
+    )
 
 log_asks : AsksFiles false ((codes "--log") ∷ [])
     (λ a p. SendingFiles (record (plain_files a (p ∷ [])) { log = true }))
@@ -298,7 +304,8 @@ bad_name name program connect path address at plain = send_lacks program
 bad_two_ways : (name file : Text) → LacksFiles ((codes "--name=" ++ name) ∷ (codes "--file=" ++ file) ∷ []) Files
 unfolding clap_on_literals
 bad_two_ways name file program connect path address at plain = send_lacks program
-    (literal (codes "--connect=" ++ connect) ∷ literal (codes "--name=" ++ name) ∷ literal (codes "--file=" ++ file) ∷ unknown path ∷ []) Files
+    (literal (codes "--connect=" ++ connect) ∷ literal (codes "--name=" ++ name) ∷ literal (codes "--file=" ++ file)
+    ∷ unknown path ∷ []) Files
     (tt, (tt, (tt, (plain, tt)))) (refl, (refl, (refl, (plain, tt)))) refl refl
     (bad not_mixed)
 
@@ -362,6 +369,13 @@ bad_follow : LacksFiles ((codes "--follow") ∷ []) Files
 unfolding clap_on_literals
 bad_follow program connect path address at plain = send_lacks program
     (literal (codes "--connect=" ++ connect) ∷ literal (codes "--follow") ∷ unknown path ∷ []) Files
+    (tt, (tt, (plain, tt))) (refl, (refl, (plain, tt))) refl refl
+    (bad not_mixed)
+
+bad_defaults : LacksFiles ((codes "--no-defaults") ∷ []) Files
+unfolding clap_on_literals
+bad_defaults program connect path address at plain = send_lacks program
+    (literal (codes "--connect=" ++ connect) ∷ literal (codes "--no-defaults") ∷ unknown path ∷ []) Files
     (tt, (tt, (plain, tt))) (refl, (refl, (plain, tt))) refl refl
     (bad not_mixed)
 
@@ -442,6 +456,7 @@ refuses_several words line is = record {
   follow = λ n c f a at p e. reported words _ line Files is e (bad_follow n c f a at p);
   until = λ t n c f a at p e. reported words _ line Files is e (bad_until t n c f a at p);
   spool = λ t n c f a at p e. reported words _ line Files is e (bad_spool t n c f a at p);
+  no_defaults = λ n c f a at p e. reported words _ line Files is e (bad_defaults n c f a at p);
   json_alone = λ n c f a at p e. reported words _ line Receipt is e (bad_json n c f a at p);
   connect = λ n c f none p e. reported words _ line Connect is e (bad_connect n c f none p);
   timeout = λ t none n c f a at p e. reported words _ line Timeout is e (bad_timeout t none n c f a at p);

@@ -2,7 +2,7 @@
 use Rattle.std.proofs.Common.{◌≡◌, ℕ, List, [], Bool, true, false, Option, Some, None, codes, sym, ◌∙◌, ap}
 use Rattle.std.proofs.Common.{subst, ◌∷◌}
 use Rattle.std.proofs.Common.{refl, unwrap_or}
-use Rattle.std.specs.Prelude.{◌||◌, is_some, option_map}
+use Rattle.std.specs.Prelude.{◌||◌, is_some, not}
 use Rattle.std.specs.Str.{bytes_eq}
 use Rattle.std.proofs.lemmas.Bool.{false≢true}
 use Rattle.std.proofs.lemmas.Slice.Eq.{bytes_eq-Decides}
@@ -11,11 +11,11 @@ use Rattle.std.proofs.NetLemmas.Theorems.{IsSocketText_unique}
 use Rattle.clap.specs.Words.{Row, Text, first_of}
 use Rattle.bw_args.specs.Given.{GivesAddress, GivesCount, GivesCountOr, GivesEnd, GivesFolder, GivesFuse, GivesLimit}
 use Rattle.bw_args.specs.Given.{GivesName, GivesRecorders, GivesRest, GivesStatus, IsEnd, IsJournaling}
-use Rattle.bw_args.specs.Given.{GivesLog, IsRecorders, IsWork, given_on_line}
+use Rattle.bw_args.specs.Given.{GivesLog, IsRecorders, IsWork, given_on_line, is_set}
 use Rattle.bw_args.specs.Sources.{GivesSource, PlainSource, has_files, is_mixed, is_source_mixed}
 use Rattle.bw_args.specs.SeveralRecordings.{FilesUpload, GivesFiles}
 use Rattle.bw_args.specs.PcmSources.{GivesFormat, GivesNumber, GivesSamples, IsFormatText, PlainPcm, at_comma}
-use Rattle.bw_args.specs.PcmSources.{fruitless_of, is_live, samples_with}
+use Rattle.bw_args.specs.PcmSources.{described_samples, fruitless_of, is_live, samples_with}
 use Rattle.bw_args.specs.declared.commands.samples.WrittenFormat.{WrittenFormat}
 use Rattle.bw_args.specs.Lines.{GivesPcmUpload, GivesSender, GivesServer, GivesUpload, IsWishOf, Service}
 use Rattle.bw_args.specs.Lines.{FileUpload, PcmUpload, Wish, Inspecting, Packing, Rehearsing, Replaying}
@@ -238,10 +238,16 @@ one_samples given a b x y =
     let skip = one_number (given (codes "skip")) x.skip y.skip x.begins y.begins in
     let block = one_count most_block (given (codes "block")) x.block y.block x.blocks y.blocks in
     let spooled = is_some (given (codes "spool")) in
+    let defaults = not (is_set (given (codes "no-defaults"))) in
+    let until = given (codes "until") in
+    let marks = given (codes "marks") in
+    let follows = is_set (given (codes "follow")) in
     x.are
-    ∙ ap (λ (n : Option ℕ). option_map (samples_with n x.block (given (codes "until")) spooled) x.format) skip
-    ∙ ap (λ (n : Option ℕ). option_map (samples_with y.skip n (given (codes "until")) spooled) x.format) block
-    ∙ ap (option_map (samples_with y.skip y.block (given (codes "until")) spooled)) format
+    ∙ ap (λ (n : Option ℕ). described_samples (samples_with n x.block until marks spooled defaults) follows until
+    x.format) skip
+    ∙ ap (λ (n : Option ℕ). described_samples (samples_with y.skip n until marks spooled defaults) follows until
+    x.format) block
+    ∙ ap (described_samples (samples_with y.skip y.block until marks spooled defaults) follows until) format
     ∙ sym y.are
 
 one_pcm_upload : (options : List Row) (a b : PcmUpload) → GivesPcmUpload options a → GivesPcmUpload options b → a ≡ b

@@ -5,6 +5,7 @@ use Rattle.bw_args.specs.ConvertForms.{RunsConvert}
 use Rattle.bw_args.specs.FileForms.{RefusesFiles, RunsFileSender, RunsPack}
 use Rattle.bw_args.specs.FolderForms.{RunsTakes}
 use Rattle.bw_args.specs.Forms.{RefusesValues, RunsInspect, RunsRehearsal, RunsReplay}
+use Rattle.bw_args.specs.GrowingForms.{RefusesFollower, RunsFollower}
 use Rattle.bw_args.specs.JoinForms.{RunsJoin}
 use Rattle.bw_args.specs.PcmForms.{RefusesSamples, RunsPcmSender}
 use Rattle.bw_args.specs.PeerForms.{RefusesPeers, RunsSender, RunsServer, WantsPeers}
@@ -29,6 +30,8 @@ pub record RunsCommands (words : List Text) (line : CommandLine) : Type 0 where
   pub send_file : RunsFileSender words line
   -- `--pcm` with each option; `--follow` and `--spool` never give up unless `--fruitless` is there
   pub send_pcm : RunsPcmSender words line
+  -- `--follow` without `--pcm`, alone, with `--until` and with `--fruitless`
+  pub follow : RunsFollower words line
   -- `send --connect=ADDR FILE`, two files, and each of its options
   pub send_files : RunsFilesSender words line
   -- one file that doesn't begin with `-`; `--strict`, `--strict-texts`, `--keep-left-out`, which doesn't go with
@@ -58,5 +61,7 @@ pub record RefusesLines (words : List Text) (line : CommandLine) : Type 0 where
   pub files : RefusesFiles words line
   -- bad values of `--pcm`, `--skip` and `--block`, a receipt, chunks to keep, and options that don't go together
   pub samples : RefusesSamples words line
+  -- `--follow` without a file or with what needs a complete one, and `--until` without it
+  pub growing : RefusesFollower words line
   -- what is for one recording beside FILE, `--names` without it, `--json` alone, and bad values
   pub several : RefusesSeveral words line

@@ -110,9 +110,9 @@ send_command = command (codes "send") (
     repeated (codes "set") ∷ flag (codes "strict") ∷ flag (codes "strict-texts") ∷
     option (codes "keep-left-out") ∷ option (codes "pcm") ∷ option (codes "skip") ∷
     option (codes "block") ∷ flag (codes "follow") ∷ option (codes "until") ∷
-    option (codes "spool") ∷ option (codes "fruitless") ∷ flag (codes "log") ∷
-    option (codes "state") ∷ option (codes "rate") ∷ option (codes "receipt") ∷
-    flag (codes "json") ∷ [])
+    option (codes "spool") ∷ flag (codes "no-defaults") ∷ option (codes "marks") ∷
+    option (codes "fruitless") ∷ flag (codes "log") ∷ option (codes "state") ∷
+    option (codes "rate") ∷ option (codes "receipt") ∷ flag (codes "json") ∷ [])
 
 -- the program, which has a version and requires a command
 abbrev pub program : App

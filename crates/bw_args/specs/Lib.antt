@@ -20,6 +20,7 @@ pub mod PeerForms
 pub mod FileForms
 pub mod SeveralForms
 pub mod PcmForms
+pub mod GrowingForms
 pub mod InspectedFiles
 pub mod PictureForms
 pub mod RepairForms

@@ -19,7 +19,7 @@ plain_pcm_upload address name path format = record {
   connect = address;
   name = name;
   source = source_at path;
-  pcm = samples_with None None None false format;
+  pcm = samples_with None None None None false true format;
   timeout = default_timeout;
   fruitless = Some default_fruitless;
   log = false;
@@ -73,6 +73,15 @@ pub record RunsPcmSender (words : List Text) (line : CommandLine) : Type 0 where
   pub spool : (path text : Text) (format : WrittenFormat) → IsFormatText text format
       → ForSender false words (with_spool path text []) (AsksToSendPcm line path format (λ s.
       record s { pcm = record s.pcm { is_spooled = true }; fruitless = None }))
+  -- with `--no-defaults`
+  pub no_defaults : (path text : Text) (format : WrittenFormat) → IsFormatText text format
+      → ForSender false words (with_pcm path text (codes "--no-defaults" ∷ []))
+      (AsksToSendPcm line path format (λ s. record s { pcm = record s.pcm { defaults = false } }))
+  -- with `--marks=MARKS` too
+  pub marks : (path text marks : Text) (format : WrittenFormat) → IsFormatText text format
+      → ForSender false words (with_spool path text ((codes "--marks=" ++ marks) ∷ []))
+      (AsksToSendPcm line path format (λ s.
+      record s { pcm = record s.pcm { is_spooled = true; marks = Some marks }; fruitless = None }))
   -- with `--rate=BYTES`
   pub rate : (path text bytes : Text) (format : WrittenFormat) → IsFormatText text format
       → IsCountText most_rate bytes
@@ -102,6 +111,10 @@ pub record RefusesSamples (words : List Text) (line : CommandLine) : Type 0 wher
   -- with `--until=END` alone
   pub until : (path text end : Text) (format : WrittenFormat) → IsFormatText text format
       → ForSender false words (with_pcm path text ((codes "--until=" ++ end) ∷ []))
+      (ReportsBad line MixedSamples)
+  -- with `--marks=MARKS` alone
+  pub marks : (path text marks : Text) (format : WrittenFormat) → IsFormatText text format
+      → ForSender false words (with_pcm path text ((codes "--marks=" ++ marks) ∷ []))
       (ReportsBad line MixedSamples)
   -- with `--state=STATE`
   pub state : (path text state : Text) (format : WrittenFormat) → IsFormatText text format
@@ -135,6 +148,9 @@ pub record RefusesSamples (words : List Text) (line : CommandLine) : Type 0 wher
   -- `--spool=SPOOL` alone
   pub unformatted : (path : Text)
       → ForSender false words ((codes "--spool=" ++ path) ∷ []) (ReportsBad line MixedSamples)
+  -- with `--file=FILE --no-defaults` alone
+  pub no_defaults : (path : Text)
+      → ForSender false words (with_file path (codes "--no-defaults" ∷ [])) (ReportsBad line MixedSamples)
   -- with `--file=FILE --skip=BYTES` alone
   pub formatless : (path bytes : Text) → IsNumber bytes
       → ForSender false words (with_file path ((codes "--skip=" ++ bytes) ∷ []))

@@ -131,6 +131,8 @@ pub record RefusesSeveral (words : List Text) (line : CommandLine) : Type 0 wher
   -- with `--spool=SPOOL`
   pub spool : (spool : Text) → ForFiles false words ((codes "--spool=" ++ spool) ∷ [])
       (ReportsBad line Files)
+  -- with `--no-defaults`
+  pub no_defaults : ForFiles false words (codes "--no-defaults" ∷ []) (ReportsBad line Files)
   -- with `--json` alone
   pub json_alone : ForFiles false words (codes "--json" ∷ []) (ReportsBad line Receipt)
   -- where ADDR is no local address

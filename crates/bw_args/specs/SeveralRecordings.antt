@@ -42,11 +42,16 @@ files_in_plain s = record {
   rate = s.rate;
 }
 
+-- an option that says where live samples are kept, or what else their take has
+abbrev pub is_for_live : (Text → Option Text) → Bool
+is_for_live given = is_some (given (codes "spool"))
+    || (is_set (given (codes "no-defaults")) || is_some (given (codes "marks")))
+
 -- an option that says something about headerless samples
 abbrev pub is_sampled : (Text → Option Text) → Bool
 is_sampled given = is_some (given (codes "pcm")) || (is_some (given (codes "skip"))
     || (is_some (given (codes "block")) || (is_set (given (codes "follow"))
-    || (is_some (given (codes "until")) || is_some (given (codes "spool"))))))
+    || (is_some (given (codes "until")) || is_for_live given))))
 
 -- an option that is for one recording alone: its exchanges, name, file or samples, or what is kept of it
 abbrev pub is_files_mixed : (Text → Option Text) → Bool

@@ -63,8 +63,8 @@ pub enum BadValue {
     /// How many frames a block of headerless samples has.
     Block,
     /// An option for headerless samples without `--pcm`; `--pcm` without `--file` and `--spool`,
-    /// with both, or with `--state`; or options that don't say in one way when the recording has
-    /// ended.
+    /// with both, or with `--state`; options that don't say in one way when the recording has
+    /// ended; or `--follow` with what needs a file that is complete.
     MixedSamples,
     /// An option for one recording, or for samples, beside a FILE.
     Files,
@@ -215,12 +215,13 @@ const BAD_MIXED: &str = report!(
 );
 
 const BAD_RECEIPT: &str = report!(
-    "'--receipt <RECEIPTS>' is for RIFF WAVE, BW64 and RF64 files, and '--json' for ",
-    "'--receipt <RECEIPTS>'"
+    "'--receipt <RECEIPTS>' is for RIFF WAVE, BW64 and RF64 files, without '--follow', and ",
+    "'--json' for '--receipt <RECEIPTS>'"
 );
 
 const BAD_LEFT_OUT: &str = report!(
-    "'--keep-left-out <LEFT>' can't be given beside '--strict', '--pcm' and '--spool <SPOOL>'"
+    "'--keep-left-out <LEFT>' can't be given beside '--strict', '--pcm', '--spool <SPOOL>' and ",
+    "'--follow'"
 );
 
 const BAD_PCM: &str = report!(
@@ -238,14 +239,16 @@ const BAD_BLOCK: &str = report!(
 
 const BAD_MIXED_SAMPLES: &str = report!(
     "'--pcm' is for '--file <FILE>' or '--spool <SPOOL>', without '--state'; '--skip', ",
-    "'--block', '--follow' and '--spool' are for '--pcm'; '--follow' goes with '--until ",
-    "<END>', and neither with '--spool'"
+    "'--block', '--spool', '--no-defaults' and '--marks' are for '--pcm', and with it ",
+    "'--follow' for '--until <END>'; '--until' is for '--follow', and neither goes with ",
+    "'--spool'; '--marks' is for one of these; without '--pcm' '--follow' is for ",
+    "'--file <FILE>', without '--state', '--strict' and '--strict-texts'"
 );
 
 const BAD_FILES: &str = report!(
     "FILE.. can't be given beside '--name', '--file', '--rounds', '--keep-left-out', '--pcm', ",
-    "'--skip', '--block', '--follow', '--until' and '--spool': '--names <NAMES>' names several ",
-    "recordings, and '--name <NAME>' with '--file <FILE>' sends one"
+    "'--skip', '--block', '--follow', '--until', '--spool', '--no-defaults' and '--marks': '--names ",
+    "<NAMES>' names several recordings, and '--name <NAME>' with '--file <FILE>' sends one"
 );
 
 const BAD_INSPECTION: &str = report!(

@@ -18,8 +18,8 @@ pub struct SourceFile {
     pub left_out: Option<String>,
 }
 
-/// Headerless samples, as a command line describes them. Whether there is such a format isn't
-/// checked here.
+/// Headerless samples, as a command line describes them, or those of a file with a header that another
+/// program still writes. Whether there is such a format isn't checked here.
 #[derive(Debug, PartialEq, Eq, Drop)]
 pub struct PcmSource {
     /// The sample rate, in Hz.
@@ -35,9 +35,16 @@ pub struct PcmSource {
     /// The path that exists once the recording has ended, as it was given, where another program
     /// still writes the file.
     pub until: Option<String>,
+    /// The path of the file to which lines for markers are appended, as it was given.
+    pub marks: Option<String>,
     /// Whether the file is a spool: standard input is appended to it, and its end is that of the
     /// recording. No path says that then.
     pub is_spooled: bool,
+    /// Whether fields of `bext` that aren't set may be filled.
+    pub defaults: bool,
+    /// Whether the file is followed, and its header says the format and where the samples begin. No
+    /// option says them then: rate, channels, bits and skip are 0.
+    pub in_header: bool,
 }
 
 /// The sender of headerless samples that a command line asks for.

@@ -642,7 +642,7 @@ static RECEIPTS: [Line; 19] = [
     (&["--spool=-f", "--receipt=-r"], Outcome::Refuses),
 ];
 
-static PCM_SENDERS: [Line; 30] = [
+static PCM_SENDERS: [Line; 34] = [
     (
         &["--pcm=48000,2,24", "--file=-f"],
         Outcome::SendsPcm(0, None, Some(10)),
@@ -740,7 +740,17 @@ static PCM_SENDERS: [Line; 30] = [
         &["--file=-f", "--pcm=48000,2,24", "--until=-e"],
         Outcome::Refuses,
     ),
-    (&["--file=-f", "--follow", "--until=-e"], Outcome::Refuses),
+    (
+        &["--file=-f", "--follow", "--until=-e"],
+        Outcome::FollowsHeader(true, None),
+    ),
+    (
+        &["--follow", "--fruitless=3", "--file=-f"],
+        Outcome::FollowsHeader(false, Some(3)),
+    ),
+    (&["--file=-f", "--until=-e"], Outcome::Refuses),
+    (&["--file=-f", "--follow", "--state=-s"], Outcome::Refuses),
+    (&["--file=-f", "--follow", "--block=44"], Outcome::Refuses),
     (
         &["--file=-f", "--pcm=48000,2,24", "--rounds=2"],
         Outcome::Refuses,

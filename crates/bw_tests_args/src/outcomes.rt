@@ -59,6 +59,9 @@ pub(crate) enum Outcome {
     Follows(u32, Option<u32>, Option<u32>),
     /// The same, with `-f` as the spool of standard input.
     Spools(u32, Option<u32>, Option<u32>),
+    /// Follows the file `-f`, whose header says the format: whether until `-e` exists, and after how
+    /// many fruitless links it gives up.
+    FollowsHeader(bool, Option<u32>),
     /// Sends so many recordings to the address that the rows' first words give: whether
     /// `-n` names them, and whether `-s` keeps their states.
     SendsFiles(usize, [bool; 2]),
@@ -282,6 +285,9 @@ fn pcm_sender_outcome(sender: &PcmSender) -> Outcome {
         return Outcome::SendsElsewhere;
     }
     let pcm = &sender.pcm;
+    if pcm.in_header {
+        return header_outcome(sender);
+    }
     let is_as_given = pcm.rate == 48_000 && pcm.channels == 2 && pcm.bits == 24;
     if !is_as_given || said_of(&sender.source).is_none() {
         return Outcome::Confuses;
@@ -297,6 +303,18 @@ fn pcm_sender_outcome(sender: &PcmSender) -> Outcome {
         }
         Some(_) => Outcome::Confuses,
         None => Outcome::SendsPcm(pcm.skip, pcm.block, sender.fruitless),
+    }
+}
+
+fn header_outcome(sender: &PcmSender) -> Outcome {
+    let pcm = &sender.pcm;
+    if pcm.is_spooled || pcm.block.is_some() || said_of(&sender.source).is_none() {
+        return Outcome::Confuses;
+    }
+    match &pcm.until {
+        None => Outcome::FollowsHeader(false, sender.fruitless),
+        Some(until) if until.as_str() == "-e" => Outcome::FollowsHeader(true, sender.fruitless),
+        Some(_) => Outcome::Confuses,
     }
 }
 

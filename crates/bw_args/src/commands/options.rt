@@ -265,7 +265,7 @@ const CONNECT: Row = Row {
 pub(crate) const NAMED: [Row; 2] = [CONNECT, NAME];
 
 /// The options of `send`.
-pub(crate) const SEND: [Row; 24] = [
+pub(crate) const SEND: [Row; 26] = [
     CONNECT,
     Row {
         name: "files",
@@ -320,17 +320,27 @@ pub(crate) const SEND: [Row; 24] = [
     Row {
         name: "follow",
         kind: Flag,
-        help: "With --pcm: sends the file while another program is still writing it",
+        help: "With --file: sends the file while another program is still writing it; a WAVE file until its header says the size of its data, or END exists",
     },
     Row {
         name: "until",
         kind: Value("END"),
-        help: "With --follow: a path that exists once the recording is finished",
+        help: "With --follow: a path that exists once the recording is finished; --pcm needs it",
     },
     Row {
         name: "spool",
         kind: Value("SPOOL"),
         help: "With --pcm, instead of --file: appends standard input to SPOOL, and sends it until the input ends",
+    },
+    Row {
+        name: "no-defaults",
+        kind: Flag,
+        help: "With --pcm: leaves bext's fields empty but for those of --set [default: fills originator and history; with --spool also date, clock, time (UTC) and reference]",
+    },
+    Row {
+        name: "marks",
+        kind: Value("MARKS"),
+        help: "With --follow or --spool: each line 'mark' or 'mark LABEL-ID' that is appended to MARKS becomes a marker there",
     },
     Row {
         name: "fruitless",

@@ -26,12 +26,15 @@ pub fn receipt_given(
     }
 }
 
-/// Whether a receipt is asked for of headerless samples, or a form of it without a receipt.
+/// Whether a receipt is asked for of headerless samples or of a file that is followed, or a form of it
+/// without a receipt.
 pub fn is_receipt_mixed(options: &ArgMatches<'_>) -> bool
     ensures { result ≡ is_receipt_mixed (first_value (found_of options.now)) }
 {
     if options.get_str("receipt").is_some() {
-        return options.get_str("pcm").is_some() || options.get_str("spool").is_some();
+        return options.get_str("pcm").is_some()
+            || options.get_str("spool").is_some()
+            || flag_given(options, "follow");
     }
     flag_given(options, "json")
 }

@@ -1,13 +1,14 @@
-//! Headerless samples, as `send` takes them.
-ghost use Rattle.std.specs.Prelude.{◌≡◌, codes, false, option_map, Some, IfOk, IfErr, MatchOption, OnErr};
+//! Headerless samples, and those of a file that is followed, as `send` takes them.
+ghost use Rattle.std.specs.Prelude.{◌≡◌, codes, false, option_map, string_bytes, Some, IfOk, IfErr, MatchOption, OnErr};
 ghost use Rattle.clap.specs.Words.{first_value, found_of, rows_of};
 ghost use Rattle.bw_args.specs.Given.{GivesAddress, GivesName, is_set};
 ghost use Rattle.bw_args.specs.Lines.{AsksForPath, GivesTries, IsFirstBad, IsLineFor};
 ghost use Rattle.bw_args.specs.LeftOutOptions.{is_left_out_mixed};
 ghost use Rattle.bw_args.specs.Lines.{looked_at_samples};
 ghost use Rattle.bw_args.specs.PcmSources.{GivesSamples, IsFormatGiven, IsFormatText, IsNumberGiven};
-ghost use Rattle.bw_args.specs.PcmSources.{are_samples_mixed, at_comma, fruitless_of, is_unpaired, plain_pcm};
-ghost use Rattle.bw_args.specs.PcmSources.{is_live, plain_samples};
+ghost use Rattle.bw_args.specs.PcmSources.{are_samples_mixed, at_comma, described_samples, fruitless_of};
+ghost use Rattle.bw_args.specs.PcmSources.{is_growing_mixed, is_unpaired, plain_pcm, samples_with};
+ghost use Rattle.bw_args.specs.PcmSources.{PlainPcm, is_live, plain_samples};
 ghost use Rattle.bw_args.specs.ReceiptOptions.{is_receipt_mixed};
 ghost use Rattle.bw_args.specs.Sources.{is_mixed, path_given};
 ghost use Rattle.bw_args.specs.declared.commands.samples.WrittenFormat.{WrittenFormat};
@@ -31,7 +32,10 @@ pub(crate) struct Samples<'a> {
     skip: u32,
     block: Option<u32>,
     until: Option<&'a str>,
+    marks: Option<&'a str>,
     is_spooled: bool,
+    defaults: bool,
+    in_header: bool,
 }
 
 /// A format as it is written: whether there is such a format isn't checked.
@@ -68,7 +72,7 @@ pub(crate) fn samples_given<'o>(
         return Err(BadValue::MixedSamples);
     }
     let Some(format) = format else {
-        return Ok(None);
+        return Ok(header_samples(options));
     };
     Ok(Some(Samples {
         rate: format.rate,
@@ -77,8 +81,34 @@ pub(crate) fn samples_given<'o>(
         skip: skip.unwrap_or(0),
         block,
         until: options.get_str("until"),
+        marks: options.get_str("marks"),
         is_spooled: options.get_str("spool").is_some(),
+        defaults: !flag_given(options, "no-defaults"),
+        in_header: false,
     }))
+}
+
+/// The samples of a file with a header, where the options say that it is followed.
+fn header_samples<'o>(options: &'o ArgMatches<'_>) -> Option<Samples<'o>>
+    ensures { (samples : WrittenFormat → PlainPcm) → option_map plain_samples result
+        ≡ described_samples samples (is_set (first_value (found_of options.now) (codes "follow")))
+        (first_value (found_of options.now) (codes "until")) None }
+{
+    if !flag_given(options, "follow") {
+        return None;
+    }
+    Some(Samples {
+        rate: 0,
+        channels: 0,
+        bits: 0,
+        skip: 0,
+        block: None,
+        until: options.get_str("until"),
+        marks: None,
+        is_spooled: false,
+        defaults: false,
+        in_header: true,
+    })
 }
 
 /// The format that the options give, or none.
@@ -139,14 +169,30 @@ fn are_mixed(options: &ArgMatches<'_>) -> bool
     }
     options.get_str("skip").is_some()
         || options.get_str("block").is_some()
-        || flag_given(options, "follow")
-        || options.get_str("until").is_some()
         || options.get_str("spool").is_some()
+        || flag_given(options, "no-defaults")
+        || options.get_str("marks").is_some()
+        || is_growing_mixed(options)
+}
+
+/// Whether options are given that aren't for a recording whose file is still written: `--follow`
+/// without a file, with a state, or with a refusal of what is lost, which isn't known yet; and
+/// `--until` without it.
+fn is_growing_mixed(options: &ArgMatches<'_>) -> bool
+    ensures { result ≡ is_growing_mixed (first_value (found_of options.now)) }
+{
+    if flag_given(options, "follow") {
+        return path_given(options).is_none()
+            || options.get_str("state").is_some()
+            || flag_given(options, "strict")
+            || flag_given(options, "strict-texts");
+    }
+    options.get_str("until").is_some()
 }
 
 /// Whether options are given that don't say in one way when the recording has ended: beside
 /// `--spool` another file, `--follow` or `--until`, and without it one of these two without the
-/// other.
+/// other; or marks of one that has ended.
 fn is_unpaired(options: &ArgMatches<'_>) -> bool
     ensures { result ≡ is_unpaired (first_value (found_of options.now)) }
 {
@@ -158,7 +204,7 @@ fn is_unpaired(options: &ArgMatches<'_>) -> bool
     if flag_given(options, "follow") {
         return options.get_str("until").is_none();
     }
-    options.get_str("until").is_some()
+    options.get_str("until").is_some() || options.get_str("marks").is_some()
 }
 
 /// What `send` results in for samples in the file, or the spool, at a path.
@@ -204,10 +250,8 @@ pub(crate) fn samples_line(
 fn pcm_source(alloc: Global, samples: Samples<'_>) -> Result<PcmSource, AllocError>
     ensures { IfOk result (λ source. plain_pcm source ≡ plain_samples samples.entry) }
 {
-    let until = match samples.until {
-        Some(path) => Some(String::from_str(alloc, path)?),
-        None => None,
-    };
+    let until = owned(alloc, samples.until)?;
+    let marks = owned(alloc, samples.marks)?;
     Ok(PcmSource {
         rate: samples.rate,
         channels: samples.channels,
@@ -215,15 +259,27 @@ fn pcm_source(alloc: Global, samples: Samples<'_>) -> Result<PcmSource, AllocErr
         skip: samples.skip,
         block: samples.block,
         until,
+        marks,
         is_spooled: samples.is_spooled,
+        defaults: samples.defaults,
+        in_header: samples.in_header,
     })
+}
+
+fn owned(alloc: Global, path: Option<&str>) -> Result<Option<String>, AllocError>
+    ensures { IfOk result (λ owned. option_map string_bytes owned ≡ option_map (λ path. path.now) path.entry) }
+{
+    match path {
+        Some(path) => Ok(Some(String::from_str(alloc, path)?)),
+        None => Ok(None),
+    }
 }
 
 /// After how many links in a row that settle nothing a sender of these samples gives up.
 fn most_fruitless(samples: Samples<'_>, given: Option<u32>) -> Option<u32>
     ensures { result ≡ fruitless_of (is_live (plain_samples samples.entry)) given }
 {
-    if samples.until.is_some() || samples.is_spooled {
+    if samples.until.is_some() || samples.is_spooled || samples.in_header {
         return given;
     }
     Some(given.unwrap_or(numbers::DEFAULT_FRUITLESS))

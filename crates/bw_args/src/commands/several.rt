@@ -4,7 +4,7 @@ ghost use Rattle.clap.specs.Words.{first_value, found_of, matched_of, raw_values
 ghost use Rattle.bw_args.specs.Given.{GivesAddress, is_set};
 ghost use Rattle.bw_args.specs.Lines.{AsksForPath, GivesTries, IsLineFor};
 ghost use Rattle.bw_args.specs.ReceiptOptions.{is_receipt_mixed};
-ghost use Rattle.bw_args.specs.SeveralRecordings.{is_files_mixed, is_sampled};
+ghost use Rattle.bw_args.specs.SeveralRecordings.{is_files_mixed, is_sampled, is_for_live};
 ghost use Rattle.bw_args.specs.Sources.{has_files};
 
 use super::network::{address_given, flag_given};
@@ -111,5 +111,14 @@ fn is_sampled(options: &ArgMatches<'_>) -> bool
         || options.get_str("block").is_some()
         || flag_given(options, "follow")
         || options.get_str("until").is_some()
-        || options.get_str("spool").is_some()
+        || is_for_live(options)
+}
+
+/// Whether an option says where live samples are kept, or what else their take has.
+fn is_for_live(options: &ArgMatches<'_>) -> bool
+    ensures { result ≡ is_for_live (first_value (found_of options.now)) }
+{
+    options.get_str("spool").is_some()
+        || flag_given(options, "no-defaults")
+        || options.get_str("marks").is_some()
 }
