@@ -1,0 +1,5 @@
+mod MarkLineCuts
+mod KeptSteps
+mod SeenSteps
+pub mod SearchSteps
+mod BegunLines

@@ -1,0 +1,10 @@
+pub mod MarkNumbers
+pub mod MarkLines
+pub mod MarkPlaces
+pub mod MarkTexts
+pub mod KeptPlaces
+pub mod WaveHeaders
+pub mod SampleBounds
+pub mod Defaults
+pub mod BegunSpools
+pub mod ExamplesOfDefaults
