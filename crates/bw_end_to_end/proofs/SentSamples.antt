@@ -1,5 +1,5 @@
 -- Samples that were sent with status 0 are copied.
-use Rattle.std.proofs.Common.{◌≡◌, inl, inr, ℕ, true, List, map, refl, sym, ◌∙◌}
+use Rattle.std.proofs.Common.{◌≡◌, inl, inr, ℕ, true, List, [], map, refl, sym, ◌∙◌}
 use Rattle.std.specs.Prelude.{codes, string_bytes}
 use Rattle.bw_model.specs.Wire.{are_bytes}
 use Rattle.bw_stream.specs.declared.sink.Sink.{Ghosts as Writer}
@@ -81,7 +81,7 @@ module _ {F P D R W T : Type 0} (feed : FeedGhosts F FeedFault) (pause : PauseGh
     o,
     asked,
     λ r is. samples_copied recorder file b old new did o begun r bytes asked went done is
-        (opens b refl r is),
+        (opens b refl [] refl r is),
   )
   followed_copied by_path recorder file b old new did bytes (inr (o, Err fault, asked, opens, unsent)) done =
       absurd (open_ends (codes "send") file.file.path.now fault did.exit did.faults unsent.0.reports done)

@@ -1,5 +1,5 @@
 -- What samples that were sent with status 0 are at the server.
-use Rattle.std.specs.Prelude.{◌≡◌, ℕ, Bool, Option, Some, Ok, IsTrue, List, map, string_bytes}
+use Rattle.std.specs.Prelude.{◌≡◌, ℕ, Bool, Option, Some, Ok, IsTrue, List, [], map, string_bytes}
 use Rattle.bw_model.specs.Wire.{are_bytes}
 use Rattle.bw_stream.specs.declared.sink.Sink.{Ghosts as Writer}
 use Rattle.bw_stream.specs.declared.source.Source.{Ghosts as Reader}
@@ -59,12 +59,12 @@ module _ {F P D R W T : Type 0} (feed : FeedGhosts F FeedFault) (pause : PauseGh
       × (r : Recording) × SendsSamplesCopy recorder file b old new o r
 
   -- .. of a file that has these bytes at its end, with `--follow` or as a spool, where they have a
-  -- recording
+  -- recording, and no markers are placed
   abbrev pub FollowedSamplesAreCopied : Type 0
   FollowedSamplesAreCopied = (by_path : Bool) (recorder : Recorder) (file : PcmFile) (b : List ℕ)
       (old new : Ways P D) (did : Packing) → IsTrue (are_bytes b) →
       IsPcmSent feed pause dial reader writer recorder file
-      (FollowsFile feed by_path (Some b) file.pcm) old new did →
+      (FollowsFile feed by_path (Some b) (Some []) file.pcm) old new did →
       did.exit ≡ Done →
       (o : Options) × HasOptions file o × ((r : Recording) → pcm_recording_of b o file.pcm ≡ Ok r →
       SendsSamplesCopy recorder file b old new o r)

@@ -4,6 +4,9 @@ use Rattle.bw_net.specs.declared.host.Host.{Host}
 use Rattle.bw_net.specs.declared.recordings.HostRecordings.{HostRecordings}
 use Rattle.bw_net.specs.declared.recordings.StampedFile.{StampedFile}
 use Rattle.bw_net.specs.declared.followed.FollowedFile.{FollowedFile}
+use Rattle.bw_net.specs.declared.followed_wave.FollowedWave.{FollowedWave}
+use Rattle.bw_net.specs.declared.growing.GrowingInput.{GrowingInput}
+use Rattle.bw_net.specs.declared.growing.GrowingInput.TheVariants.{Bytes, Wave}
 use Rattle.bw_net.specs.declared.spool_file.SpoolFile.{SpoolFile}
 use Rattle.bw_net.specs.declared.receipts.HostReceipts.{HostReceipts}
 use Rattle.bw_net.specs.declared.receipts.ReceiptFile.{ReceiptFile}
@@ -35,6 +38,22 @@ followed_has_ended f = f.has_ended
 -- the reader that it is read by
 abbrev pub followed_reader : {R : Type 0} → FollowedFile R → R
 followed_reader f = f.file
+
+-- the same of a WAVE file
+abbrev pub wave_failures : FollowedWave → ℕ
+wave_failures f = f.failures
+
+abbrev pub wave_has_ended : FollowedWave → Bool
+wave_has_ended f = f.has_ended
+
+-- and of either
+abbrev pub growing_failures : GrowingInput → ℕ
+growing_failures (Bytes file) = followed_failures file
+growing_failures (Wave file) = wave_failures file
+
+abbrev pub growing_has_ended : GrowingInput → Bool
+growing_has_ended (Bytes file) = followed_has_ended file
+growing_has_ended (Wave file) = wave_has_ended file
 
 -- as a spool's file did
 abbrev pub spool_failures : {W : Type 0} → SpoolFile W → ℕ

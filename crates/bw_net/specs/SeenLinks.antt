@@ -1,5 +1,5 @@
 -- What is seen of links over TCP.
-use Rattle.std.specs.Prelude.{ℕ, ℤ, ◌++◌, Bool, true, false, List, Option, Some, None, String, codes}
+use Rattle.std.specs.Prelude.{ℕ, ℤ, ◌++◌, Bool, false, List, Option, Some, None, String, codes}
 use Rattle.std.specs.Prelude.{decimal, string_bytes, pos, ◌||◌}
 use Rattle.std.specs.Ordering.{int_eq}
 use Rattle.std.specs.declared.alloc.Global.{Global}

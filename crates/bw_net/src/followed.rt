@@ -26,6 +26,8 @@ enum Ending<'a> {
     Path(String),
     /// The end of standard input, which goes into this spool.
     Input(&'a SpoolCell),
+    /// A file at this path, if there is one: each look waits a moment.
+    Waiting(Option<String>),
 }
 
 /// A file that another program writes until a file is at a path, or that standard input is
@@ -52,12 +54,35 @@ impl<'a> FollowedFile<'a, File> {
         ensures { IfOk result (λ file. (file.has_ended ≡ false) × (file.failures ≡ 0)) }
     {
         let until = String::from_str(rt.alloc(), until)?;
-        let mut file = open_once_made(rt, path, until.as_str())?;
+        let mut file = open_once_made(rt, path, Some(until.as_str()))?;
         file.seek(SeekFrom::Start(skip))?;
         Ok(FollowedFile {
             rt,
             file,
             ending: Ending::Path(until),
+            has_ended: false,
+            failures: 0,
+        })
+    }
+
+    /// The file at a path, at its start, until its header is read. Each look whether the recording has
+    /// ended waits a moment. A file that isn't there yet is waited for as `open` does.
+    pub(crate) fn header(
+        rt: &'a HostRuntime,
+        path: &str,
+        until: Option<&str>,
+    ) -> io::Result<FollowedFile<'a, File>>
+        ensures { IfOk result (λ file. (file.has_ended ≡ false) × (file.failures ≡ 0)) }
+    {
+        let file = open_once_made(rt, path, until)?;
+        let until = match until {
+            Some(until) => Some(String::from_str(rt.alloc(), until)?),
+            None => None,
+        };
+        Ok(FollowedFile {
+            rt,
+            file,
+            ending: Ending::Waiting(until),
             has_ended: false,
             failures: 0,
         })
@@ -92,6 +117,13 @@ impl<R> FollowedFile<'_, R> {
         match &self.ending {
             Ending::Path(until) => fs::exists(self.rt, until.as_str()),
             Ending::Input(spool) => Ok(spool.draw() == Some(SpoolState::Ended)),
+            Ending::Waiting(until) => {
+                thread::sleep(self.rt, Duration::from_millis(BETWEEN_LOOKS));
+                match until {
+                    Some(until) => fs::exists(self.rt, until.as_str()),
+                    None => Ok(false),
+                }
+            }
         }
     }
 
@@ -100,17 +132,18 @@ impl<R> FollowedFile<'_, R> {
         match &self.ending {
             Ending::Path(_until) => false,
             Ending::Input(spool) => spool.draw() == Some(SpoolState::Failed),
+            Ending::Waiting(_until) => false,
         }
     }
 }
 
 /// Opens the file at a path, once it is there.
-fn open_once_made(rt: &HostRuntime, path: &str, until: &str) -> io::Result<File> {
+fn open_once_made(rt: &HostRuntime, path: &str, until: Option<&str>) -> io::Result<File> {
     for _look in 0..LOOKS {
         match open_file(rt, path) {
             Ok(file) => return Ok(file),
             Err(error) => {
-                if error.kind() != ErrorKind::NotFound || fs::exists(rt, until)? {
+                if error.kind() != ErrorKind::NotFound || is_made(rt, until)? {
                     return Err(error);
                 }
             }
@@ -118,6 +151,14 @@ fn open_once_made(rt: &HostRuntime, path: &str, until: &str) -> io::Result<File>
         thread::sleep(rt, Duration::from_millis(BETWEEN_LOOKS));
     }
     open_file(rt, path)
+}
+
+/// Whether a file is at a path, if there is one.
+fn is_made(rt: &HostRuntime, path: Option<&str>) -> io::Result<bool> {
+    match path {
+        Some(path) => fs::exists(rt, path),
+        None => Ok(false),
+    }
 }
 
 /// The file at a path. A pipe, which may have been made meanwhile, isn't waited for.

@@ -3,11 +3,14 @@ ghost use Rattle.std.specs.Prelude.{◌≡◌, ◌+◌, ◌*◌, ◌-◌, ◌^�
 
 use crate::counting::counted;
 use crate::followed::FollowedFile;
+use crate::followed_wave::FollowedWave;
+use crate::growing::GrowingInput;
 use crate::host::open_source;
 use crate::kinds::kind_of;
 use crate::spool::SpoolCell;
 use crate::states::HostStates;
 use crate::stopwatch::ClockStopwatch;
+use bw_live::GrowingFiles;
 use bw_ports::{FileKind, FileKinds, FileStamp, RecordingFiles, Stamped, StateKeeping};
 use bw_stream::SeekSource;
 use std::alloc::AllocError;
@@ -49,7 +52,7 @@ impl<'a> RecordingFiles for HostRecordings<'a> {
 
     type File = SeekSource<File>;
 
-    type Growing = FollowedFile<'a, File>;
+    type Growing = GrowingInput<'a>;
 
     type Stamped = StampedFile<'a>;
 
@@ -68,12 +71,15 @@ impl<'a> RecordingFiles for HostRecordings<'a> {
         path: &str,
         skip: u64,
         until: Option<&str>,
-    ) -> io::Result<FollowedFile<'a, File>> {
+    ) -> io::Result<GrowingInput<'a>> {
         let followed = match until {
             Some(until) => FollowedFile::open(self.rt, path, skip, until),
             None => FollowedFile::spool(self.rt, path, skip, self.spool),
         };
-        counted(followed, &mut self.failures)
+        match counted(followed, &mut self.failures) {
+            Ok(file) => Ok(GrowingInput::Bytes(file)),
+            Err(error) => Err(error),
+        }
     }
 
     fn stamp(&mut self, path: &str) -> io::Result<FileStamp> {
@@ -87,6 +93,29 @@ impl<'a> RecordingFiles for HostRecordings<'a> {
             path,
             failures: 0,
         })
+    }
+}
+
+impl<'a> GrowingFiles for HostRecordings<'a> {
+    fn follow_header(&mut self, path: &str, until: Option<&str>) -> io::Result<GrowingInput<'a>> {
+        let followed = FollowedFile::header(self.rt, path, until);
+        match counted(followed, &mut self.failures) {
+            Ok(file) => Ok(GrowingInput::Bytes(file)),
+            Err(error) => Err(error),
+        }
+    }
+
+    fn follow_data(
+        &mut self,
+        path: &str,
+        place: u64,
+        until: Option<&str>,
+    ) -> io::Result<GrowingInput<'a>> {
+        let followed = FollowedWave::open(self.rt, path, place, until);
+        match counted(followed, &mut self.failures) {
+            Ok(file) => Ok(GrowingInput::Wave(file)),
+            Err(error) => Err(error),
+        }
     }
 }
 

@@ -1,5 +1,6 @@
 //! The spool of standard input, and waits during which it is filled.
 use crate::input::{INPUT_TOKEN, InputLink, watch_again, watch_input};
+use crate::marks::MarkCell;
 use crate::spool_file::SpoolFile;
 use bw_ports::{Drawn, Spool, SpoolState};
 use mio::net::TcpStream;
@@ -28,6 +29,8 @@ const BETWEEN_LOOKS: u64 = 100;
 #[derive(Drop)]
 pub struct SpoolCell {
     spooling: RefCell<Option<Spooling>>,
+    /// Lines for markers are looked for during waits, if there are any.
+    pub(crate) marks: MarkCell,
 }
 
 impl SpoolCell {
@@ -35,6 +38,7 @@ impl SpoolCell {
     pub fn new() -> SpoolCell {
         SpoolCell {
             spooling: RefCell::new(None),
+            marks: MarkCell::new(),
         }
     }
 
@@ -92,7 +96,16 @@ impl SpoolCell {
         if self.is_open() && self.wait(rt, span, false).is_ok() {
             return;
         }
-        thread::sleep(rt, span);
+        let piece = Duration::from_millis(BETWEEN_LOOKS);
+        let mut left = span;
+        for _look in 0..u64::MAX {
+            if !self.marks.look() || left <= piece {
+                break;
+            }
+            thread::sleep(rt, piece);
+            left = left.saturating_sub(piece);
+        }
+        thread::sleep(rt, left);
     }
 
     /// Whether there is a spool, and more may come.
@@ -132,6 +145,25 @@ impl SpoolCell {
         most: Duration,
         for_link: bool,
     ) -> io::Result<bool> {
+        let start = Instant::now(rt)?;
+        let piece = Duration::from_millis(BETWEEN_LOOKS);
+        for _look in 0..u64::MAX {
+            let left = most.saturating_sub(start.elapsed(rt)?);
+            if !self.marks.look() || left <= piece {
+                return self.wait_so_long(rt, left, for_link);
+            }
+            if self.wait_so_long(rt, piece, for_link)? {
+                return Ok(true);
+            }
+        }
+        Ok(false)
+    }
+
+    /// The same without a look for lines.
+    ///
+    /// # Errors
+    /// If the system failed, or there is no spool.
+    fn wait_so_long(&self, rt: &HostRuntime, most: Duration, for_link: bool) -> io::Result<bool> {
         let Ok(mut guard) = self.spooling.try_borrow_mut() else {
             return Err(io::Error::from(ErrorKind::Unsupported));
         };

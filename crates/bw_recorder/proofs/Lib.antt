@@ -1,4 +1,5 @@
 pub mod OpeningSteps
+pub mod HeaderSteps
 pub mod PutSteps
 pub mod Lists
 pub mod RequestHex

@@ -171,7 +171,7 @@ abbrev warnings_by : List ℕ → Outline → Result (Form × List Entry) readin
 warnings_by b outline z = elim z [ Err fault ↦ [] | Ok y ↦ warnings_of (notes_of b y.0 y.1) outline ]
 
 -- what is lost by the report is what is lost of the bytes
-warnings_are : (b : List ℕ) (o : Options) (r : Report) (x : Extras) (outline : Outline) → IsOutlined b o r x outline →
+pub warnings_are : (b : List ℕ) (o : Options) (r : Report) (x : Extras) (outline : Outline) → IsOutlined b o r x outline →
     warnings_of (notes_by r x.extension.items x.history.items) outline ≡ warnings_in b outline
 warnings_are b o r x outline h =
     ap (λ (n : FileNotes). warnings_of n outline) (notes_are b r x h.report h.extras)

@@ -4,6 +4,7 @@ pub mod QuotedTexts
 pub mod WarningTexts
 pub mod FaultHints
 pub mod Openings
+pub mod HeldHeaders
 pub mod SettingLists
 pub mod Puts
 pub mod Packs

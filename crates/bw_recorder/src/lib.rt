@@ -4,6 +4,7 @@
 #![tactic(auto)]
 
 mod fault;
+mod held_header;
 mod hint;
 mod job;
 mod opening;
@@ -14,6 +15,7 @@ mod settings;
 mod warning_text;
 
 pub use fault::{NO_MEMORY, OpenFault, OptionsFault, line_of, read_again, unread};
+pub use held_header::{HeldHeader, header_of};
 pub use job::RecordingFile;
 pub use opening::{Opened, extension_at_path, open_recording, read_report};
 pub use packing::{pack, refuse_options, report_open_fault, warn};

@@ -41,9 +41,9 @@ const LOSSY: &str =
 #[derive(Drop)]
 pub(crate) struct Extras {
     /// Of an extensible format.
-    extension: Vec<u8>,
+    pub(crate) extension: Vec<u8>,
     /// The coding history.
-    history: Vec<u8>,
+    pub(crate) history: Vec<u8>,
 }
 
 /// Opens the recording in the file at a path. The file is opened four times.
@@ -233,7 +233,7 @@ fn begin<F: RecordingFiles>(
 ///
 /// # Errors
 /// Lossy where it may lose nothing; Refused where memory was refused.
-fn allowed_losses(
+pub(crate) fn allowed_losses(
     alloc: Global,
     options: &Options,
     report: &Report,

@@ -9,7 +9,11 @@ pub mod FollowedFeeds
 pub mod PcmPlans
 pub mod PcmFeedSteps
 pub mod OpenedSamples
+pub mod GrowingSteps
 mod KnownLengths
+mod MarkedPlans
+mod MarkedSteps
+mod MarkedWaits
 mod ReadSteps
 mod ResumedFeeds
 mod RestSteps

@@ -14,6 +14,7 @@ use Rattle.bw_plan.proofs.FaultLists.{none_hold}
 use Rattle.bw_plan.proofs.PcmRecordings.{pcm_comes}
 use Rattle.bw_plan.proofs.WholeRecordings.{not_ok, ok_inj}
 use Rattle.bw_send_file.specs.ComingRequests.{whole_frames, close_after}
+use Rattle.bw_send_file.specs.FramedSamples.{HasWholeFrames, recording_with}
 
 -- how many samples there are changes nothing else
 other_len : (ss : List Setting) (r : Outline) (n : ℕ) →
@@ -95,6 +96,30 @@ plan_is b o p len frames s r h k =
     ∙ ap (λ (ys : List ℕ). first r.outline ys []) (sym c.samples)
     ∙ ap (λ (z : Outline). first z xs []) same
     ∙ ap (λ (rs : List Request). rs ++ Close (length xs / a) ∷ [])
+    (append-nil (Open s.format s.history ∷ field_requests 1 s.values ++ block_requests (frames * a) xs))
+    ∙ append_assoc (Open s.format s.history ∷ field_requests 1 s.values) (block_requests (frames * a) xs)
+    (Close (length xs / a) ∷ [])
+    ∙ ap (λ (ys : List ℕ). Open s.format s.history ∷ field_requests 1 s.values ++ (block_requests (frames * a) ys
+    ++ Close (length xs / a) ∷ [])) (sym frames_are)
+    ∙ ap (λ (rs : List Request). Open s.format s.history ∷ field_requests 1 s.values
+    ++ (block_requests (frames * a) (whole_frames a xs) ++ rs)) (sym close)
+
+-- the same of an outline and samples in whole frames
+pub plan_with : (frames : ℕ) (s : Outline) (xs : List ℕ) → HasWholeFrames s xs →
+    plan frames (recording_with s xs)
+    ≡ Open s.format s.history ∷ field_requests 1 s.values
+    ++ (block_requests (frames * block_align s.format) (whole_frames (block_align s.format) xs)
+    ++ close_after 0 (block_align s.format) (length xs))
+unfolding plan
+plan_with frames s xs whole =
+    let a : ℕ = block_align s.format in
+    let all : length xs - length xs % a ≡ length xs = ap (λ (k : ℕ). length xs - k) whole ∙ omega arith in
+    let frames_are : whole_frames a xs ≡ xs =
+    ap (λ (k : ℕ). take k xs) all ∙ take_all (length xs) xs (omega arith) in
+    let close : close_after 0 a (length xs) ≡ Close (length xs / a) ∷ [] =
+    ap (λ (k : ℕ). cond (k == 0) (Close (0 + length xs / a) ∷ []) []) whole
+    ∙ ap (λ (k : ℕ). Close k ∷ []) (omega arith) in
+    ap (λ (rs : List Request). rs ++ Close (length xs / a) ∷ [])
     (append-nil (Open s.format s.history ∷ field_requests 1 s.values ++ block_requests (frames * a) xs))
     ∙ append_assoc (Open s.format s.history ∷ field_requests 1 s.values) (block_requests (frames * a) xs)
     (Close (length xs / a) ∷ [])

@@ -7,9 +7,11 @@ pub mod PlanFeeds
 pub mod FollowedReads
 pub mod Samples
 pub mod ComingRequests
+pub mod FramedSamples
 pub mod PcmFeeds
 pub mod PcmSendings
 pub mod SampleFeeds
+pub mod GrowingSendings
 pub mod SkippedRequests
 pub mod TakeOpenings
 pub mod Asks
@@ -18,3 +20,4 @@ pub mod FoundCounts
 pub mod StateReports
 pub mod SentOn
 pub mod FilesSentOn
+pub mod Marked

@@ -1,7 +1,7 @@
 -- What the command `send --file --pcm` does.
 use Rattle.std.specs.Prelude.{◌≡◌, ◌⊎◌, ◌≤◌, ℕ, Bool, true, false, List, Option, Some, Result, Ok, Err}
 use Rattle.std.specs.Prelude.{codes}
-use Rattle.std.specs.Prelude.{length, map, string_bytes}
+use Rattle.std.specs.Prelude.{None, [], length, map, option_map, string_bytes}
 use Rattle.bw_model.specs.Take.{Request}
 use Rattle.bw_stream.specs.Readers.{Of}
 use Rattle.bw_stream.specs.declared.sink.Sink.{Ghosts as Writer}
@@ -22,6 +22,7 @@ use Rattle.bw_recorder.specs.SettingLists.{options_of}
 use Rattle.bw_recorder.specs.declared.fault.OpenFault.{OpenFault}
 use Rattle.bw_recorder.specs.declared.fault.OpenFault.TheVariants.{Unopened, Refused, Lossy, Changed}
 use Rattle.bw_send_file.specs.FileSendings.{errand_of}
+use Rattle.bw_send_file.specs.Marked.{marked_recording}
 use Rattle.bw_send_file.specs.Sendings.{Errand, Ways, IsFeedSent}
 use Rattle.bw_send_file.specs.declared.fault.FeedFault.{FeedFault}
 use Rattle.bw_send_file.specs.declared.job.Recorder.{Recorder}
@@ -45,6 +46,22 @@ pub record FeedsSamples (b : List ℕ) (o : Options) (p : Pcm) (to_come : List R
 abbrev pub FollowsSamples : List ℕ → Options → Pcm → (List Request → Type 0) → Type 0
 FollowsSamples b o p to_come =
     (r : Recording) → pcm_recording_of b o p ≡ Ok r → to_come (plan (block_frames o r.outline.format) r)
+
+-- the same with these markers, which are placed while the recording is made
+abbrev pub FollowsMarked : List ℕ → List (ℕ × ℕ) → Options → Pcm → (List Request → Type 0) → Type 0
+FollowsMarked b ms o p to_come = (r : Recording) → pcm_recording_of b o p ≡ Ok r →
+    to_come (plan (block_frames o r.outline.format) (marked_recording ms r))
+
+-- the markers that will have been placed in a file, by what is known of those at two paths; none where
+-- no marks are named
+abbrev pub placed_by : (List ℕ → Option (List (ℕ × ℕ))) → Option (List ℕ) → Option (List (ℕ × ℕ))
+placed_by points None = Some []
+placed_by points (Some marks) = points marks
+
+abbrev pub placed_in : {F : Type 0} → (F → List ℕ → List ℕ → Option (List (ℕ × ℕ))) → F → PcmFile →
+    Option (List (ℕ × ℕ))
+placed_in points_at files f =
+    placed_by (points_at files f.file.path.now) (option_map (λ marks. marks.now) f.marks)
 
 -- why the samples in a file of so many bytes aren't sent: the system fails, or this is their first
 -- fault
@@ -90,9 +107,17 @@ module _ {F : Type 0} (feed : FeedGhosts F FeedFault) where
 
   -- The file that will have these bytes, if they are reported, is followed, until a path exists or
   -- without one; or why it can't be, by what is known of it.
-  abbrev pub FollowsFile : Bool → Option (List ℕ) → Pcm → Options → Result F OpenFault → Type 0
-  FollowsFile by_path file p o (Ok f) = Of file (λ b. FollowsSamples b o p (feed.left f))
-  FollowsFile by_path file p o (Err fault) =
+  abbrev pub FollowsUnmarked : Bool → Option (List ℕ) → Pcm → Options → Result F OpenFault → Type 0
+  FollowsUnmarked by_path file p o (Ok f) = Of file (λ b. FollowsSamples b o p (feed.left f))
+  FollowsUnmarked by_path file p o (Err fault) =
+      (len : ℕ) × IsKnownLen by_path p.skip len × RefusesPcm o p len fault
+
+  -- the same with the markers that will have been placed in it, if they are known
+  abbrev pub FollowsFile : Bool → Option (List ℕ) → Option (List (ℕ × ℕ)) → Pcm → Options →
+      Result F OpenFault → Type 0
+  FollowsFile by_path file placed p o (Ok f) =
+      Of file (λ b. (ms : List (ℕ × ℕ)) → placed ≡ Some ms → FollowsMarked b ms o p (feed.left f))
+  FollowsFile by_path file placed p o (Err fault) =
       (len : ℕ) × IsKnownLen by_path p.skip len × RefusesPcm o p len fault
 
 module _ {F P D R W : Type 0} (feed : FeedGhosts F FeedFault) (pause : PauseGhosts P)

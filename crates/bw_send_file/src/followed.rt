@@ -4,14 +4,17 @@ ghost use Rattle.bw_stream.specs.Moves.{failures_after};
 ghost use Rattle.bw_console.specs.Prints.{failures_if};
 ghost use Rattle.bw_recorder.specs.Openings.{is_system_well};
 ghost use Rattle.bw_recorder.specs.Packs.{HasPacked, Packing};
-ghost use Rattle.bw_send_file.specs.PcmSendings.{FollowsFile, IsKnownLen, IsPcmSent};
+ghost use Rattle.bw_send_file.specs.Marked.{points_known};
+ghost use Rattle.bw_send_file.specs.PcmSendings.{FollowsFile, FollowsUnmarked, IsKnownLen, IsPcmSent, placed_in};
 
+use crate::marked_feed::MarkedFeed;
 use crate::pcm_feed::PcmFeed;
 use crate::pcm_job::PcmFile;
 use crate::pcm_sending::send_opened;
 use crate::{PcmRequests, Recorder};
 use bw_console::Exit;
-use bw_plan::{Options, Pcm};
+use bw_live::{MarkPlace, Marking};
+use bw_plan::Options;
 use bw_ports::{Dial, Pause, RecordingFiles};
 use bw_recorder::{OpenFault, read_options, refuse_options};
 use bw_stream::Sink;
@@ -22,11 +25,13 @@ use std::io;
 /// Sends the headerless samples in a file as a recorder, as `send_feed` does, while they are still
 /// being written: each block once it is written, and the rest and CLOSE once the path `until`
 /// exists; or if that is None, once standard input, which is appended to the file, has ended. What
-/// is written before this is noticed is sent.
+/// is written before this is noticed is sent. If the file names one of marks, each of its lines becomes
+/// a marker when it is seen, and all of them are sent before CLOSE; then no more are.
 ///
 /// Before any link is made: `Refused` for a fault of the format, whose line is
 /// `send: KIND at OFFSET`, and for a file that standard input would be appended to inside a frame, or
-/// that is too long already; `Usage` if a setting can't be read; `Device` if the file can't be opened;
+/// that is too long already; `Usage` if a setting can't be read; `Device` if the file can't be opened,
+/// or its markers not kept;
 /// `Memory` if memory was refused. A file that ends inside a frame is `Refused` after its whole
 /// frames, in a line of that form.
 ///
@@ -34,7 +39,14 @@ use std::io;
 /// - What `send_feed` leaves open.
 /// - When the system fails, and the reason in its line.
 /// - Of a file whose bytes aren't reported, which bytes the requests are of.
-pub fn follow_samples<F: RecordingFiles, P: Pause, D: Dial, V: Observer, W: Sink, E: Sink>(
+pub fn follow_samples<
+    F: RecordingFiles + Marking,
+    P: Pause,
+    D: Dial,
+    V: Observer,
+    W: Sink,
+    E: Sink,
+>(
     alloc: Global,
     recorder: &Recorder<'_>,
     file: &PcmFile<'_>,
@@ -48,10 +60,11 @@ pub fn follow_samples<F: RecordingFiles, P: Pause, D: Dial, V: Observer, W: Sink
 ) -> Exit
     // If the file's later bytes are a recording, the feed has all requests of its plan.
     ensures { (did : Packing) × (did.exit ≡ result)
-        × IsPcmSent ⟦<PcmFeed<F::Growing> as Feed>⟧ P.Pause D.Dial D.Reader.Source
-        D.Writer.Sink recorder.now file.now
-        (FollowsFile ⟦<PcmFeed<F::Growing> as Feed>⟧ (is_some until.entry)
-        (F.file_at files.old file.now.file.path.now) file.now.pcm)
+        × IsPcmSent ⟦<MarkedFeed<PcmFeed<F::Growing>, F::Marker> as Feed>⟧ P.Pause D.Dial
+        D.Reader.Source D.Writer.Sink recorder.now file.now
+        (FollowsFile ⟦<MarkedFeed<PcmFeed<F::Growing>, F::Marker> as Feed>⟧ (is_some until.entry)
+        (F.file_at files.old file.now.file.path.now) (placed_in F.points_at files.old file.now)
+        file.now.pcm)
         (record { pause = pause.old; dial = dial.old })
         (record { pause = pause.new; dial = dial.new }) did
         × (F.failures files.new ≡ failures_if did.is_system_well (F.failures files.old))
@@ -61,7 +74,14 @@ pub fn follow_samples<F: RecordingFiles, P: Pause, D: Dial, V: Observer, W: Sink
         Ok(options) => options,
         Err(fault) => return refuse_options(fault, faults),
     };
-    let opened = open_followed(alloc, files, file.file.path, until, file.pcm, &options);
+    let opened = open_followed(
+        alloc,
+        files,
+        recorder.name.as_bytes(),
+        file,
+        until,
+        &options,
+    );
     send_opened(
         alloc,
         recorder,
@@ -75,23 +95,81 @@ pub fn follow_samples<F: RecordingFiles, P: Pause, D: Dial, V: Observer, W: Sink
     )
 }
 
-/// Opens the file at a path at its first sample, to be followed until the other path exists, or
-/// standard input ends.
+/// Opens a file at its first sample, to be followed until the other path exists, or standard input
+/// ends, and places its markers.
 ///
 /// # Errors
 /// Why it can't be sent.
-fn open_followed<F: RecordingFiles>(
+fn open_followed<F: RecordingFiles + Marking>(
     alloc: Global,
     files: &mut F,
-    path: &str,
+    name: &[u8],
+    file: &PcmFile<'_>,
     until: Option<&str>,
-    pcm: Pcm,
     options: &Options,
-) -> Result<PcmFeed<F::Growing>, OpenFault>
-    ensures follows { FollowsFile ⟦<PcmFeed<F::Growing> as Feed>⟧ (is_some until.entry)
-        (F.file_at files.old path.now) pcm options.now result }
+) -> Result<MarkedFeed<PcmFeed<F::Growing>, F::Marker>, OpenFault>
+    ensures follows { FollowsFile ⟦<MarkedFeed<PcmFeed<F::Growing>, F::Marker> as Feed>⟧
+        (is_some until.entry) (F.file_at files.old file.now.file.path.now)
+        (placed_in F.points_at files.old file.now) file.now.pcm options.now result }
     ensures count { F.failures files.new ≡ failures_if (is_system_well result) (F.failures files.old) }
 {
+    let marker = match open_marker(files, name, file) {
+        Ok(marker) => marker,
+        Err(error) => return Err(OpenFault::Unopened(error)),
+    };
+    match open_requests(alloc, files, file, until, options) {
+        Ok(feed) => Ok(MarkedFeed::new(alloc, feed, marker)),
+        Err(fault) => Err(fault),
+    }
+}
+
+/// What places the markers of a recording, if a file of marks is named.
+///
+/// # Errors
+/// If the system failed, or another recording's markers are kept.
+fn open_marker<F: RecordingFiles + Marking>(
+    files: &mut F,
+    name: &[u8],
+    file: &PcmFile<'_>,
+) -> io::Result<Option<F::Marker>>
+    ensures files { F.file_at files.new ≡ F.file_at files.old }
+    ensures count { F.failures files.new ≡ failures_after result (F.failures files.old) }
+    ensures places { IfOk result (λ marker. points_known F.Marker.Marker marker ≡ placed_in F.points_at files.old file.now) }
+{
+    let Some(marks) = file.marks else {
+        return Ok(None);
+    };
+    let align = u32::from(file.pcm.channels) * u32::from(file.pcm.bits / 8);
+    let place = MarkPlace {
+        name,
+        recording: file.file.path,
+        marks,
+        skip: file.pcm.skip,
+        align: align.max(1),
+    };
+    match files.marker(&place) {
+        Ok(marker) => Ok(Some(marker)),
+        Err(error) => Err(error),
+    }
+}
+
+/// Opens a file at its first sample, to be followed.
+///
+/// # Errors
+/// Why it can't be sent.
+fn open_requests<F: RecordingFiles>(
+    alloc: Global,
+    files: &mut F,
+    file: &PcmFile<'_>,
+    until: Option<&str>,
+    options: &Options,
+) -> Result<PcmFeed<F::Growing>, OpenFault>
+    ensures follows { FollowsUnmarked ⟦<PcmFeed<F::Growing> as Feed>⟧ (is_some until.entry)
+        (F.file_at files.old file.now.file.path.now) file.now.pcm options.now result }
+    ensures count { F.failures files.new ≡ failures_if (is_system_well result) (F.failures files.old) }
+{
+    let path = file.file.path;
+    let pcm = file.pcm;
     let growing = match files.follow(path, pcm.skip, until) {
         Ok(growing) => growing,
         Err(error) => return Err(OpenFault::Unopened(error)),

@@ -1,6 +1,6 @@
 //! The command `send --file`: a recording is sent over links that are kept, until all of it is stored
-//! or it can't go on. With `--pcm` its file has no header, and may still be written; with `--state`
-//! it goes on where an earlier sender of the same file stopped.
+//! or it can't go on. Its file may still be written; with `--pcm` it has no header; with `--state` it
+//! goes on where an earlier sender of the same file stopped.
 //! Not stated: that the first stamp is taken before the file is opened; which path says that a
 //! recording has ended, that it is looked at before each read, and that a complete file is found to
 //! be complete; that the keeper of a state gets the reports of this upload and no others; when a line
@@ -17,12 +17,17 @@ mod finished;
 mod follow_fault;
 mod followed;
 mod followed_buffer;
+mod followed_outline;
 mod followed_reading;
 mod followed_requests;
 mod followed_state;
+mod growing;
+mod growing_header;
 mod job;
 mod keeper;
+mod kept_markers;
 mod link_log;
+mod marked_feed;
 mod observers;
 mod pcm_feed;
 mod pcm_job;
@@ -50,9 +55,11 @@ pub use follow_fault::PcmFault;
 pub use followed::follow_samples;
 pub use followed_requests::NextRequest;
 pub use followed_state::PcmRequests;
+pub use growing::follow_recording;
 pub use job::Recorder;
 pub use keeper::StateKeeper;
 pub use link_log::LinkLog;
+pub use marked_feed::MarkedFeed;
 pub use observers::Observers;
 pub use pcm_feed::PcmFeed;
 pub use pcm_job::PcmFile;

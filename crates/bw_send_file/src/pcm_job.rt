@@ -9,4 +9,6 @@ pub struct PcmFile<'a> {
     pub file: RecordingFile<'a>,
     /// The samples' format, and their place in the file.
     pub pcm: Pcm,
+    /// The path of the file to which lines for markers are appended while the recording is made.
+    pub marks: Option<&'a str>,
 }
