@@ -19,6 +19,7 @@ use bw_takes::ScreenStyle;
 use std::io::{IsTerminal, Stderr, Stdin, Stdout};
 use std::marker::PhantomData;
 use std::process::ExitCode;
+use std::time::{SystemTime, UNIX_EPOCH};
 
 /// What the process works over, besides a network.
 struct Process<'a, N> {
@@ -180,6 +181,7 @@ fn outside_of<
         },
         screens: screen_style(rt),
         is_typed: rt.stdin().is_terminal(),
+        started: milliseconds_now(rt),
         environment: PhantomData,
     }
 }
@@ -228,6 +230,17 @@ fn observers_of<
         },
         part: BatchPart::alone(),
         environment: PhantomData,
+    }
+}
+
+/// The time in milliseconds after the start of 1970 (UTC); None if it can't be read.
+fn milliseconds_now(rt: &HostRuntime) -> Option<u64> {
+    let Ok(now) = SystemTime::now(rt) else {
+        return None;
+    };
+    match now.duration_since(UNIX_EPOCH) {
+        Ok(passed) => u64::try_from(passed.as_millis()).ok(),
+        Err(_) => None,
     }
 }
 

@@ -102,7 +102,7 @@ module _ {S T F H G M SB SL KP RC Ed LK DK DF N X Z P R W L K SP SK D A B U J Q 
       (AnySamples sender) exit x x'
   any_spooled {sender} {exit} {x} {x'} is done = record {
     sent = subst (λ (is_spooled : Bool). SendsBySpool upload_side sender_side network host.files
-        host.spools host.out host.reported is_spooled sender exit x.files x'.files
+        host.states host.spools host.out host.reported x.started is_spooled sender exit x.files x'.files
         x.network x.pause x'.pause x.out x'.out x.faults x'.faults) (sym is) done.sent;
     well = done.well;
     unused = done.unused;
@@ -119,7 +119,7 @@ module _ {S T F H G M SB SL KP RC Ed LK DK DF N X Z P R W L K SP SK D A B U J Q 
       (AnySamples sender) exit x x'
   any_unspooled {sender} {exit} {x} {x'} is done = record {
     sent = subst (λ (is_spooled : Bool). SendsBySpool upload_side sender_side network host.files
-        host.spools host.out host.reported is_spooled sender exit x.files x'.files
+        host.states host.spools host.out host.reported x.started is_spooled sender exit x.files x'.files
         x.network x.pause x'.pause x.out x'.out x.faults x'.faults) (sym is) done.sent;
     well = done.well;
     unused = done.unused;

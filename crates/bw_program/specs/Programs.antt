@@ -45,12 +45,12 @@ use Rattle.bw_program.specs.RepairCommands.{RepairsFile}
 use Rattle.bw_program.specs.Remote.{SendsTyped, ServesByRule}
 use Rattle.bw_program.specs.Sources.{IfFile}
 use Rattle.bw_program.specs.PcmCommands.{SendsBySpool, SendsPcmCommand}
-use Rattle.bw_program.specs.PcmUploads.{SendsPcm}
+use Rattle.bw_program.specs.PcmUploads.{SendsFilled, SendsPcm}
 use Rattle.bw_program.specs.Requests.{ProgramRequest, ByWords, ByLine, ByTask, ByUpload, Upload}
 use Rattle.bw_program.specs.ReceiptCommands.{SendsAsAsked, SendsWithReceipt, SenderWorld, sender_world}
 use Rattle.bw_program.specs.Requests.{NewRecording, KeptRecording, AnyRecording}
 use Rattle.bw_program.specs.Requests.{FoundRecording, RecordingWithReceipt, RecordingAsAsked}
-use Rattle.bw_program.specs.Requests.{SpooledSamples, FileSamples, AnySamples}
+use Rattle.bw_program.specs.Requests.{SpooledSamples, FileSamples, FilledSamples, SetSamples, AnySamples}
 use Rattle.bw_program.specs.Requests.{EachRecording, NamedRecording, OneRecording}
 use Rattle.bw_program.specs.SeveralCommands.{DoesAfter, DoesInTurn, IsRequestOf, IsSenderOf, PrintsQueueLine}
 use Rattle.bw_program.specs.SeveralCommands.{queue_line}
@@ -320,8 +320,9 @@ module _ {S T F H G M SB SL KP RC Ed LK DK DF N X Z P R W L K SP SK D A B U J Q 
   IsTaskFor file_at failed (SendPcm sender) exit x x' =
       IfFile host.kinds host.reported (string_bytes sender.source.path) sender.pcm.is_spooled exit
       x.files x'.files x.pause x'.pause x.out x'.out x.faults x'.faults
-      (SendsPcmCommand upload_side sender_side network host.files host.spools host.out host.reported
-      sender exit x.files x'.files x.network x.pause x'.pause x.out x'.out x.faults x'.faults)
+      (SendsPcmCommand upload_side sender_side network host.files host.states host.spools host.out
+      host.reported x.started sender exit x.files x'.files x.network x.pause x'.pause x.out x'.out x.faults
+      x'.faults)
       × IsHostWell failed x' × (x'.network ≡ x.network) × (x'.input ≡ x.input) × (x'.disk ≡ x.disk)
   IsTaskFor file_at failed (Pack source) exit x x' =
       KeepsFirst failed source (PacksSource failed source) exit x x'
@@ -407,14 +408,21 @@ module _ {S T F H G M SB SL KP RC Ed LK DK DF N X Z P R W L K SP SK D A B U J Q 
       (sender_world x'.files x'.pause x'.out x'.faults)
   IsSentOver (RecordingAsAsked sender) exit x x' = SendsFileAsAsked sender exit x x'
   IsSentOver (SpooledSamples sender) exit x x' =
-      SendsBySpool upload_side sender_side network host.files host.spools host.out host.reported true
-      sender exit x.files x'.files x.network x.pause x'.pause x.out x'.out x.faults x'.faults
+      SendsBySpool upload_side sender_side network host.files host.states host.spools host.out host.reported
+      x.started true sender exit x.files x'.files x.network x.pause x'.pause x.out x'.out x.faults x'.faults
   IsSentOver (FileSamples sender) exit x x' =
-      SendsPcm upload_side sender_side network host.files host.out host.reported
-      sender exit x.files x'.files x.network x.pause x'.pause x.out x'.out x.faults x'.faults
+      SendsBySpool upload_side sender_side network host.files host.states host.spools host.out host.reported
+      x.started false sender exit x.files x'.files x.network x.pause x'.pause x.out x'.out x.faults x'.faults
+  IsSentOver (FilledSamples filled sender) exit x x' =
+      SendsFilled upload_side sender_side network host.files host.spools host.out host.reported
+      sender filled exit x.files x'.files x.network x.pause x'.pause x.out x'.out x.faults x'.faults
+  IsSentOver (SetSamples texts sender) exit x x' =
+      SendsPcm upload_side sender_side network host.files host.spools host.out host.reported
+      sender texts exit x.files x'.files x.network x.pause x'.pause x.out x'.out x.faults x'.faults
   IsSentOver (AnySamples sender) exit x x' =
-      SendsPcmCommand upload_side sender_side network host.files host.spools host.out host.reported
-      sender exit x.files x'.files x.network x.pause x'.pause x.out x'.out x.faults x'.faults
+      SendsPcmCommand upload_side sender_side network host.files host.states host.spools host.out
+      host.reported x.started sender exit x.files x'.files x.network x.pause x'.pause x.out x'.out x.faults
+      x'.faults
   IsSentOver (NamedRecording several recording) exit x x' =
       SendsNamed several recording exit x x' ⊎ GivesUpOne exit x x'
   IsSentOver (OneRecording several receipts recording) exit x x' =

@@ -47,13 +47,17 @@ abbrev pub state_side : {F B L : Type 0} → (F → List ℕ → Option (List �
     StateSide F B L
 state_side kept_at files log = record { kept_at = kept_at; files = files; log = log }
 
--- what senders hold their spools by
+-- what senders hold their spools by, and the markers that will have been placed in recordings, if they
+-- are known
 pub record SpoolSide (F K : Type 0) : Type 1 where
   pub lends : F → K → Type 0
   pub keeper : KeeperGhosts K
+  pub points_at : F → List ℕ → List ℕ → Option (List (ℕ × ℕ))
 
-abbrev pub spool_side : {F K : Type 0} → (F → K → Type 0) → KeeperGhosts K → SpoolSide F K
-spool_side lends keeper = record { lends = lends; keeper = keeper }
+abbrev pub spool_side : {F K : Type 0} → (F → K → Type 0) → KeeperGhosts K →
+    (F → List ℕ → List ℕ → Option (List (ℕ × ℕ))) → SpoolSide F K
+spool_side lends keeper points_at =
+    record { lends = lends; keeper = keeper; points_at = points_at }
 
 -- the texts of receipts, and the files that they are appended to
 pub record ReceiptSide (F R : Type 0) : Type 1 where
@@ -206,10 +210,11 @@ pub record ProgramWorld (S F DK N Q I O E : Type 0) : Type 0 where
   pub faults : E
   pub screens : ScreenStyle
   pub is_typed : Bool
+  pub started : Option ℕ
 
 abbrev pub program_world : {S F DK N Q I O E : Type 0} → S → F → DK → N → Q → I → O → E →
-    ScreenStyle → Bool → ProgramWorld S F DK N Q I O E
-program_world system files disk network pause input out faults screens is_typed = record {
+    ScreenStyle → Bool → Option ℕ → ProgramWorld S F DK N Q I O E
+program_world system files disk network pause input out faults screens is_typed started = record {
   system = system;
   files = files;
   disk = disk;
@@ -220,4 +225,5 @@ program_world system files disk network pause input out faults screens is_typed 
   faults = faults;
   screens = screens;
   is_typed = is_typed;
+  started = started;
 }

@@ -4,8 +4,9 @@ ghost use Rattle.bw_program.specs.Requests.{ProgramRequest};
 
 use crate::outside::{Environment, Outside};
 use bw_journal::{Journal, NoJournal};
+use bw_live::Marking;
 use bw_ports::RecordingFiles;
-use bw_send_file::{PcmFeed, PlanFeed};
+use bw_send_file::{MarkedFeed, PcmFeed, PlanFeed};
 use bw_upload::Feed;
 
 /// What is done for a request.
@@ -25,7 +26,7 @@ impl<X: Environment> Behavior for Outside<X> {
     ghost does = { λ request exit x x'. DoesRequest
         (host_side X.System.System X.Files.RecordingFiles X.Files.File.Source
         (state_side X.Files.kept_at X.Files.States.StateFiles X.Files.States.Log.StateLog)
-        (spool_side X.Files.lends X.Files.Keeper.SpoolKeeper)
+        (spool_side X.Files.lends X.Files.Keeper.SpoolKeeper X.Files.points_at)
         (receipt_side X.Files.noted_at X.Files.Receipts.ReceiptFiles) X.Files.EditedFiles X.Files.FolderLocks
         X.Files.FileKinds X.Disk.Disk X.Input.Source X.Output.Sink X.Diagnostics.Sink)
         (server_side X.Network.Store.TakeStore ⟦<NoJournal as Journal>⟧ X.Network.Peers.Peers
@@ -34,11 +35,15 @@ impl<X: Environment> Behavior for Outside<X> {
         (status_side X.Network.StatusSetup X.Network.Port.StatusPort X.Network.Port.Link.Link))
         (sender_side X.Network.Dial.Dial X.Network.Dial.Reader.Source X.Network.Dial.Writer.Sink)
         (upload_side ⟦<PlanFeed<<X::Files as RecordingFiles>::File, <X::Files as RecordingFiles>::Stamped> as Feed>⟧
-        (LooksAt X.Files.Stamped.Stamped) ⟦<PcmFeed<<X::Files as RecordingFiles>::Growing> as Feed>⟧ X.Pause.Pause)
+        (LooksAt X.Files.Stamped.Stamped)
+        ⟦<MarkedFeed<PcmFeed<<X::Files as RecordingFiles>::Growing>, <X::Files as Marking>::Marker> as Feed>⟧
+        X.Pause.Pause)
         X.Network.Network X.Network.ListenerSetup (kept_side X.Network.Opens.opens X.Network.Opens.failures
         (turns_side X.Network.Server.Turns.answers X.Network.Server.Turns.committed
         X.Network.Server.Turns.commits X.Network.Server.HasTable.holds))
         request exit
-        (program_world x.system x.files x.disk x.network x.pause x.input x.out x.faults x.screens x.is_typed)
-        (program_world x'.system x'.files x'.disk x'.network x'.pause x'.input x'.out x'.faults x'.screens x'.is_typed) };
+        (program_world x.system x.files x.disk x.network x.pause x.input x.out x.faults x.screens x.is_typed
+        x.started)
+        (program_world x'.system x'.files x'.disk x'.network x'.pause x'.input x'.out x'.faults x'.screens
+        x'.is_typed x'.started) };
 }

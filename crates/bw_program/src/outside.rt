@@ -1,9 +1,10 @@
 //! What the program works over.
 use bw_disk::Volume;
+use bw_live::{GrowingFiles, Marking};
 use bw_operators::StatusSetup;
 use bw_ports::{
     EditedFiles, FileKinds, FolderLocks, ListenerSetup, PacedNetwork, Pause, ReceiptKeeping,
-    RecordingFiles, SpoolKeeping, StateKeeping, System, Watch,
+    SpoolKeeping, StateKeeping, System, Watch,
 };
 use bw_progress::{BatchPart, UploadWatch};
 use bw_serve::{Opens, ServeRules};
@@ -17,9 +18,10 @@ pub trait Environment {
     type System: System;
 
     /// The files of recordings.
-    type Files: RecordingFiles
+    type Files: GrowingFiles
         + StateKeeping
         + SpoolKeeping
+        + Marking
         + ReceiptKeeping
         + EditedFiles
         + FolderLocks
@@ -77,6 +79,8 @@ pub struct Outside<X: Environment> {
     pub screens: ScreenStyle,
     /// Whether standard input is typed on a terminal.
     pub is_typed: bool,
+    /// When the process began, in milliseconds after the start of 1970 (UTC), if the clock says it.
+    pub started: Option<u64>,
     /// Shows the lifetimes that `X` names: the prover wants them in a field.
     pub environment: PhantomData<X>,
 }

@@ -1,21 +1,24 @@
-//! The command that sends headerless samples, as a command line asks for it.
-ghost use Rattle.std.specs.Prelude.{◌≡◌, min};
-ghost use Rattle.bw_ports.specs.Purposes.{line_of};
-ghost use Rattle.bw_program.specs.PcmCommands.{spool_line};
+//! The command that sends headerless samples, or those of a file that is followed, as a command line
+//! asks for it.
+ghost use Rattle.std.specs.Prelude.{◌≡◌, map, min, option_map, string_bytes};
+ghost use Rattle.bw_program.specs.PcmCommands.{IsPurposeOf, IsSpoolWishOf};
 ghost use Rattle.bw_program.specs.PcmUploads.{IsPcmFileOf, IsPcmRecorderOf, awaited_end, file_awaited};
 ghost use Rattle.bw_program.specs.PcmUploads.{most_in_field};
-ghost use Rattle.bw_program.specs.Requests.{AnySamples, ByUpload, FileSamples, SpooledSamples};
+ghost use Rattle.bw_program.specs.Requests.{AnySamples, ByUpload, FileSamples, FilledSamples, SetSamples};
+ghost use Rattle.bw_program.specs.Requests.{SpooledSamples};
 
 use crate::behavior::Behavior;
 use crate::outside::{Environment, Outside};
 use crate::recordings::strictness_of;
 use bw_args::PcmSender;
-use bw_console::Exit;
+use bw_console::print::give_up;
+use bw_console::{Exit, Fault};
+use bw_live::{Filled, SpoolWish, filled_of_file, filled_settings, hold_begun};
 use bw_plan::Pcm;
-use bw_ports::{PacedNetwork, Purpose, SpoolKeeping, hold_spool, keep_unless_done};
+use bw_ports::{PacedNetwork, Purpose, SpoolKeeping, StateKeeping, keep_unless_done};
 use bw_progress::{Extent, SamplesSent, UploadWatch};
 use bw_recorder::RecordingFile;
-use bw_send_file::{PcmFile, Recorder, follow_samples, send_samples};
+use bw_send_file::{PcmFile, Recorder, follow_recording, follow_samples, send_samples};
 use bw_upload::Observer;
 use std::alloc::Global;
 
@@ -42,7 +45,25 @@ fn send_pcm_as<X: Environment, G: Observer>(
     if sender.pcm.is_spooled {
         send_spool(alloc, sender, outside, observer)
     } else {
-        send_samples_as(alloc, sender, outside, observer)
+        send_unspooled(alloc, sender, outside, observer)
+    }
+}
+
+/// Sends the samples of a file, with the fields that a rerun fills alike.
+fn send_unspooled<X: Environment, G: Observer>(
+    alloc: Global,
+    sender: &PcmSender,
+    outside: &mut Outside<X>,
+    observer: &mut G,
+) -> Exit
+    ensures { ⟦<Outside<X> as Behavior>⟧.does (ByUpload (FileSamples sender.now)) result
+        outside.old outside.new }
+{
+    let mut states = outside.files.states();
+    let wish = wish_of(sender, outside.started);
+    match filled_of_file(alloc, &wish, &mut states, &mut outside.faults) {
+        Ok(filled) => send_samples_as(alloc, sender, filled, outside, observer),
+        Err(exit) => exit,
     }
 }
 
@@ -57,19 +78,33 @@ fn send_spool<X: Environment, G: Observer>(
         outside.old outside.new }
 {
     let mut keeper = outside.files.keeper();
+    let mut states = outside.files.states();
+    let wish = wish_of(sender, outside.started);
+    let began = match hold_begun(alloc, &wish, &mut states, &mut keeper, &mut outside.faults) {
+        Ok(began) => began,
+        Err(exit) => return exit,
+    };
+    let exit = send_samples_as(alloc, sender, Filled::since(began), outside, observer);
     let path = sender.source.path.as_str();
-    let purpose = purpose_of(sender);
-    if let Err(exit) = hold_spool(alloc, path, &purpose, &mut keeper, &mut outside.faults) {
-        return exit;
-    }
-    let exit = send_samples_as(alloc, sender, outside, observer);
     keep_unless_done(alloc, path, exit, &mut keeper, &mut outside.faults);
     exit
 }
 
-/// What the spool of a sender is held for.
+/// What the fields are to be filled by that is kept beside a sender's file or spool, in a process that began
+/// then.
+fn wish_of(sender: &PcmSender, started: Option<u64>) -> SpoolWish<'_>
+    ensures { IsSpoolWishOf sender.now started result }
+{
+    SpoolWish {
+        path: sender.source.path.as_str(),
+        purpose: purpose_of(sender),
+        started: if sender.pcm.defaults { started } else { None },
+    }
+}
+
+/// The take that a sender is for, and the form of its samples.
 fn purpose_of(sender: &PcmSender) -> Purpose<'_>
-    ensures { line_of result ≡ spool_line sender.now }
+    ensures { IsPurposeOf sender.now result }
 {
     Purpose {
         name: sender.name.as_bytes(),
@@ -80,15 +115,34 @@ fn purpose_of(sender: &PcmSender) -> Purpose<'_>
     }
 }
 
-/// Sends the samples in the file that the command line names.
+/// Sends the samples in the file that the command line names, with these fields filled.
 fn send_samples_as<X: Environment, G: Observer>(
     alloc: Global,
     sender: &PcmSender,
+    filled: Filled,
     outside: &mut Outside<X>,
     observer: &mut G,
 ) -> Exit
-    ensures { ⟦<Outside<X> as Behavior>⟧.does (ByUpload (FileSamples sender.now)) result
+    ensures { ⟦<Outside<X> as Behavior>⟧.does (ByUpload (FilledSamples filled sender.now)) result
         outside.old outside.new }
+{
+    let given = sender.source.settings.as_slice();
+    match filled_settings(alloc, filled, &purpose_of(sender), given) {
+        Ok(settings) => send_set(alloc, sender, settings.as_slice(), outside, observer),
+        Err(_) => give_up(&mut outside.faults, &Fault::Memory),
+    }
+}
+
+/// Sends the samples in the file that the command line names, with these settings.
+fn send_set<X: Environment, G: Observer>(
+    alloc: Global,
+    sender: &PcmSender,
+    settings: &[String],
+    outside: &mut Outside<X>,
+    observer: &mut G,
+) -> Exit
+    ensures { ⟦<Outside<X> as Behavior>⟧.does (ByUpload (SetSamples (map string_bytes settings.now) sender.now))
+        result outside.old outside.new }
 {
     let Outside {
         files,
@@ -99,8 +153,22 @@ fn send_samples_as<X: Environment, G: Observer>(
         ..
     } = outside;
     let mut dial = network.dial_paced(sender.connect, Some(sender.timeout), sender.rate);
-    let file = pcm_file_of(sender);
+    let file = pcm_file_of(sender, settings);
     let recorder = recorder_of(sender);
+    if sender.pcm.in_header {
+        return follow_recording(
+            alloc,
+            &recorder,
+            &file.file,
+            until_of(sender),
+            files,
+            pause,
+            &mut dial,
+            observer,
+            out,
+            faults,
+        );
+    }
     match ending_of(sender) {
         Ending::Awaited(until) => follow_samples(
             alloc, &recorder, &file, until, files, pause, &mut dial, observer, out, faults,
@@ -122,7 +190,7 @@ pub(crate) fn send_pcm_watched<X: Environment, V: UploadWatch>(
     ensures { ⟦<Outside<X> as Behavior>⟧.does (ByUpload (AnySamples sender.now)) result
         outside.old outside.new }
 {
-    let file = pcm_file_of(sender);
+    let file = pcm_file_of(sender, sender.source.settings.as_slice());
     let extent = match ending_of(sender) {
         Ending::Awaited(_until) => Extent::Growing,
         Ending::Past => Extent::Whole,
@@ -136,6 +204,16 @@ pub(crate) fn send_pcm_watched<X: Environment, V: UploadWatch>(
     let exit = send_pcm_as(alloc, sender, outside, watch);
     watch.end();
     exit
+}
+
+/// The path that exists once the recording has ended, if the command line names one.
+fn until_of(sender: &PcmSender) -> Option<&str>
+    ensures { option_map (λ path. path.now) result ≡ option_map string_bytes sender.now.pcm.until }
+{
+    match &sender.pcm.until {
+        Some(until) => Some(until.as_str()),
+        None => None,
+    }
 }
 
 /// When the recording that a command line names has ended.
@@ -161,14 +239,14 @@ fn recorder_of(sender: &PcmSender) -> Recorder<'_>
     }
 }
 
-/// The file of samples that the command line names.
-fn pcm_file_of(sender: &PcmSender) -> PcmFile<'_>
-    ensures { IsPcmFileOf sender.now result }
+/// The file of samples that the command line names, with these settings.
+fn pcm_file_of<'a>(sender: &'a PcmSender, settings: &'a [String]) -> PcmFile<'a>
+    ensures { IsPcmFileOf sender.now (map string_bytes settings.now) result }
 {
     PcmFile {
         file: RecordingFile {
             path: sender.source.path.as_str(),
-            settings: sender.source.settings.as_slice(),
+            settings,
             strict: strictness_of(&sender.source),
             frames: sender.pcm.block,
         },
@@ -178,6 +256,17 @@ fn pcm_file_of(sender: &PcmSender) -> PcmFile<'_>
             bits: in_field(sender.pcm.bits),
             skip: u64::from(sender.pcm.skip),
         },
+        marks: marks_of(sender),
+    }
+}
+
+/// The file of marks that the command line names, if it does.
+fn marks_of(sender: &PcmSender) -> Option<&str>
+    ensures { option_map (λ path. path.now) result ≡ option_map string_bytes sender.now.pcm.marks }
+{
+    match &sender.pcm.marks {
+        Some(path) => Some(path.as_str()),
+        None => None,
     }
 }
 

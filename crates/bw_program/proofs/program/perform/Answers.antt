@@ -1,10 +1,15 @@
-use Rattle.std.proofs.Common.{refl, true}
-use Rattle.bw_console.specs.Prints.{IsOf}
+use Rattle.std.proofs.Common.{◌≡◌, ℕ, Bool, false, refl, true}
+use Rattle.bw_console.specs.Prints.{IsOf, failures_if}
 use Rattle.bw_console.specs.declared.exit.Exit.TheVariants.{Usage}
 use Rattle.bw_args.specs.BadValues.{text_of}
 use Rattle.bw_program.proofs.ProgramLemmas.{reports_alone}
 use Rattle.bw_program.proofs.RequestLemmas.{line_is}
 use Rattle.bw_program.proofs.program.perform.Goals as goal
+
+-- where all reads succeeded no failure more is counted
+no_failure : (all : Bool) (n : ℕ) → all ≡ true → n ≡ failures_if all n
+no_failure true n is = refl
+no_failure false n is = let bad : false ≡ true = is in cc
 
 pub returns-in-Run : goal.returns-in-Run
 returns-in-Run g c = line_is _ _ _ _ _ _ _ _ _ _ _ c.in-Run.is c.run.ensures
@@ -26,7 +31,7 @@ returns-in-Report g c =
         gives_all = true;
         is = (l.2, refl);
         failures = refl;
-        reads = rw l.3 refl;
+        reads = no_failure _ _ l.3;
         writes = l.4;
       };
       unused = refl;

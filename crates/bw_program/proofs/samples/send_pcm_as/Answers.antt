@@ -5,4 +5,4 @@ pub returns-then-sender : goal.returns-then-sender
 returns-then-sender g c = any_spooled _ _ _ _ _ _ _ c.if-sender.true c.send_spool.ensures
 
 pub returns-else-sender : goal.returns-else-sender
-returns-else-sender g c = any_unspooled _ _ _ _ _ _ _ c.if-sender.false c.send_samples_as.ensures
+returns-else-sender g c = any_unspooled _ _ _ _ _ _ _ c.if-sender.false c.send_unspooled.ensures
