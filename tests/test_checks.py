@@ -187,7 +187,7 @@ MANY = 1_100_000  # frames, one a block: more than 2^20 and than a million numbe
 
 def sends_many(name, server, path):
     """The take is sent, or is there already: each of its numbers is stored."""
-    words = ("--pcm", "48000,1,16", "--file", str(path), "--block", "1")
+    words = ("--pcm", "48000,1,16", "--no-defaults", "--file", str(path), "--block", "1")
     sent = run("send", "--connect", f"{LOCAL}:{server.port}", "--name", "many", *words)
     TALLY.same(name, sent, (0, f"settled {MANY + 2}\nstored {MANY + 2}\n", ""))
 

@@ -24,7 +24,7 @@ from kit.network import wait_until
 from kit.processes import prepare_child
 from kit.recordings import data, fmt, Recording, riff
 from kit.takes import LONGEST_BLOCK
-from kit.uploads import requests_of, serve_again, serving, settled, unseen, written
+from kit.uploads import serve_again, serving, settled, unseen, written
 
 LONGEST_RUN = 170  # seconds, for all of it
 DOWN = 2.0  # seconds for which a server is away
@@ -32,6 +32,11 @@ DOWN = 2.0  # seconds for which a server is away
 
 def words_of(port, name, path, pcm, *options):
     return uploads.words_of(port, name, path, "--pcm", pcm, *options)
+
+
+def requests_of(samples, align, frames=None):
+    """How many requests bring samples, with the originator that is filled."""
+    return uploads.requests_of(samples, align, frames) + 1
 
 
 def upload(port, name, path, pcm, *options):
@@ -80,8 +85,32 @@ def case_finished(folder):
                 again = upload(server.port, name, path, f"48000,{channels},{bits}", *options)
                 TALLY.same(f"{name}, sent again", again, (0, settled(count), ""))
         found = upload(server.port, "fields", written(folder, bytes(4)), "48000,1,16", "--set", "description=River")
-        TALLY.same("a field", found, (0, settled(4), ""))
+        TALLY.same("a field", found, (0, settled(5), ""))
         TALLY.holds("a field", "description=River" in report_of(folder, "fields"), "it isn't there")
+
+
+def case_defaults(folder):
+    """A file's fields that are the same in each run are filled, unless they are set or none is to be."""
+    path = written(folder, bytes(6 * 1_000))
+    with serving(folder) as server:
+        for pcm, history in (
+            ("48000,1,16", "A=PCM,F=48000,W=16,M=mono,T=bwingest\r\n"),
+            ("48000,2,24", "A=PCM,F=48000,W=24,M=stereo,T=bwingest\r\n"),
+            ("96000,6,32", "A=PCM,F=96000,W=32,M=multichannel,T=bwingest\r\n"),
+        ):
+            name = pcm.replace(",", "-")
+            for _run in range(2):
+                TALLY.same(f"defaults, {name}", upload(server.port, name, path, pcm)[0], 0)
+            wanted = uploads.Fields("", "bwingest", "", "", "", 0, history)
+            TALLY.same(f"defaults, {name}", uploads.fields_of(folder / "takes" / f"{name}.wav"), wanted)
+        options = ("--set", "originator=Recorder 7", "--set", "history=", "--set", "date=2026-11-29")
+        TALLY.same("defaults, set", upload(server.port, "set", path, "48000,2,24", *options)[0], 0)
+        wanted = uploads.Fields("", "Recorder 7", "", "2026-11-29", "", 0, "")
+        TALLY.same("defaults, set", uploads.fields_of(folder / "takes" / "set.wav"), wanted)
+        found = upload(server.port, "bare", path, "48000,2,24", "--no-defaults")
+        TALLY.same("no defaults", found, (0, settled(3), ""))
+        wanted = uploads.Fields("", "", "", "", "", 0, "")
+        TALLY.same("no defaults", uploads.fields_of(folder / "takes" / "bare.wav"), wanted)
 
 
 def case_crashed_header(folder):
@@ -194,7 +223,7 @@ def case_no_frame(folder):
         TALLY.same("no frame: the takes", left, [])
         path = written(folder, bytes(range(8)))
         found = upload(server.port, "none", path, "48000,2,16", "--follow", "--until", str(end))
-        TALLY.same("two frames under the name", found, (0, settled(3), ""))
+        TALLY.same("two frames under the name", found, (0, settled(4), ""))
 
 
 class Writer(threading.Thread):
@@ -423,6 +452,7 @@ def case_recorders(folder):
 
 CASES = [
     case_finished,
+    case_defaults,
     case_crashed_header,
     case_refusals,
     case_no_file,

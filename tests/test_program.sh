@@ -325,6 +325,8 @@ Options:
       --follow                    With --pcm: sends the file while another program is still writing it
       --until <END>               With --follow: a path that exists once the recording is finished
       --spool <SPOOL>             With --pcm, instead of --file: appends standard input to SPOOL, and sends it until the input ends
+      --no-defaults               With --pcm: leaves bext's fields empty but for those of --set [default: fills originator and history; with --spool also date, clock, time (UTC) and reference]
+      --marks <MARKS>             With --follow or --spool: each line 'mark' or 'mark LABEL-ID' that is appended to MARKS becomes a marker there
       --fruitless <N>             With --file or --spool: gives up after N connections in a row that settle nothing, 1 to 1000000 [default: 10; with --follow or --spool never]
       --log                       With --file or --spool: reports each change of the connection on standard error
       --state <STATE>             With --file: keeps its progress in STATE, and continues from there when run again; with FILE.. a folder of such files

@@ -316,7 +316,7 @@ def case_samples(folder):
     samples = random.Random(3).randbytes(2 * 300_000)
     with serving(folder) as server:
         words = words_of(server.port, "raw", written(folder, bytes(44) + samples, "take.raw"))
-        options = ("--pcm", PCM, "--skip", "44", "--block", "10000", "--rate", "200000")
+        options = ("--no-defaults", "--pcm", PCM, "--skip", "44", "--block", "10000", "--rate", "200000")
         sender = Sender(*words, *options)
         TALLY.same("samples", sender.end(), (0, settled(32).splitlines()))
     for _, match in parts_of("samples", sender):
@@ -339,7 +339,7 @@ def case_followed(folder):
     samples = random.Random(4).randbytes(2 * 200_001)
     path, end = folder / "take.raw", folder / "take.done"
     with serving(folder) as server:
-        words = words_of(server.port, "live", path, "--pcm", PCM, "--block", "5000", "--follow", "--until", str(end))
+        words = words_of(server.port, "live", path, "--no-defaults", "--pcm", PCM, "--block", "5000", "--follow", "--until", str(end))
         sender = Sender(*words)
         with open(path, "ab", buffering=0) as file:
             for at in range(0, len(samples), 20_000):
@@ -356,7 +356,7 @@ def case_spool(folder):
     """Standard input: the line is shown while it comes."""
     samples = random.Random(5).randbytes(2 * 100_001)
     with serving(folder) as server:
-        words = ("send", "--connect", f"{LOCAL}:{server.port}", "--name", "spooled", "--pcm", PCM, "--block", "5000")
+        words = ("send", "--connect", f"{LOCAL}:{server.port}", "--name", "spooled", "--no-defaults", "--pcm", PCM, "--block", "5000")
         sender = Sender(*words, "--spool", str(folder / "spool.raw"), given=PIPE)
         for at in range(0, len(samples), 20_000):
             sender.process.stdin.write(samples[at : at + 20_000])

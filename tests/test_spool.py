@@ -8,9 +8,12 @@ this script may mount one. The program is the first argument, or the one of this
 last 'N passed, M failed'.
 """
 import contextlib
+import dataclasses
+import datetime
 import hashlib
 import os
 import random
+import re
 import socket
 import subprocess
 import sys
@@ -22,7 +25,8 @@ from kit.hints import FRUITLESS, OUTAGES, without_outages
 from kit.network import finish, free_port, LOCAL, LONGEST_WAIT, run, run_cases, start, start_with_pipes, TALLY
 from kit.network import wait_until
 from kit.takes import LONGEST_BLOCK
-from kit.uploads import requests_of, samples_of, serve_again, serving, settled
+from kit import uploads
+from kit.uploads import Fields, fields_of, samples_of, serve_again, serving, settled
 
 LONGEST_RUN = 170  # seconds, for all of it
 PIPE = 65_536  # bytes that a pipe holds
@@ -33,6 +37,11 @@ KEEPS = "send: the input is kept in the spool until it ends"
 
 def words_of(port, name, spool, pcm, *options):
     return ("send", "--connect", f"{LOCAL}:{port}", "--name", name, "--spool", str(spool), "--pcm", pcm, *options)
+
+
+def requests_of(samples, align):
+    """How many requests bring samples, with the five fields that are filled."""
+    return uploads.requests_of(samples, align) + 5
 
 
 def samples_in(folder, name):
@@ -288,12 +297,13 @@ def case_refused_name(folder):
     """While the server refuses, the whole input is kept, and can be sent under another name."""
     with serving(folder) as server:
         other = random.Random(45).randbytes(2 * 60_000)
-        words = words_of(server.port, "taken", folder / "other.raw", "48000,1,16")
+        words = words_of(server.port, "taken", folder / "other.raw", "48000,1,16", "--no-defaults")
         TALLY.same("taken", run(*words, given=other)[0], 0)
         first = "Conflict: another request was sent under number 1\n"
-        spool, samples = keeps_all("conflict", folder, server.port, "taken", first, 1)
+        spool, samples = keeps_all("conflict", folder, server.port, "taken", first, 1, "--no-defaults")
         words = ["--file" if word == "--spool" else word for word in words_of(server.port, "free", spool, "48000,1,16")]
-        TALLY.same("sent under another name", run(*words), (0, settled(requests_of(samples, 2)), ""))
+        # of a file that is bound to another name only the originator is filled
+        TALLY.same("sent under another name", run(*words), (0, settled(uploads.requests_of(samples, 2) + 1), ""))
         TALLY.same("sent under another name", digest(samples_in(folder, "free")), digest(samples))
 
 
@@ -328,8 +338,9 @@ def case_other_use(folder):
         spool, side = folder / "bound.raw", folder / "bound.raw.for"
         words = words_of(server.port, "bound", spool, "48000,2,16")
         is_whole("bound", folder, spool, samples, 4, run(*words, given=samples))
-        line = "name=bound pcm=48000,2,16 skip=0"
-        TALLY.same("bound: the line", side.read_text(), f"{line}\n")
+        line = side.read_text().rstrip("\n")
+        is_line = re.fullmatch(r"name=bound began=\d{13} pcm=48000,2,16 skip=0", line)
+        TALLY.holds("bound: the line", is_line, line)
         refused = (3, "", f"{spool} can't be opened: it was begun for {line}\n")
         for name, pcm, options in (
             ("other", "48000,2,16", ()),
@@ -337,6 +348,7 @@ def case_other_use(folder):
             ("bound", "48000,1,16", ()),
             ("bound", "48000,2,24", ()),
             ("bound", "48000,2,16", ("--skip", "4")),
+            ("bound", "48000,2,16", ("--no-defaults",)),
         ):
             found = run(*words_of(server.port, name, spool, pcm, *options), given=bytes(4_000))
             TALLY.same(f"bound, used for {name} {pcm} {options}", found, refused)
@@ -344,15 +356,75 @@ def case_other_use(folder):
         TALLY.same("bound: the line", side.read_text(), f"{line}\n")
         found = run(*words)
         TALLY.same("bound: goes on", found, (0, settled(requests_of(samples, 4)), ""))
-        # a spool of an earlier release has no line: it goes on, and is bound
-        side.unlink()
-        TALLY.same("without a line", run(*words), (0, settled(requests_of(samples, 4)), ""))
-        TALLY.same("without a line", side.read_text(), f"{line}\n")
         # one that holds nothing may be used for anything
         os.truncate(spool, 0)
         found = run(*words_of(server.port, "anew", spool, "44100,1,16"), given=samples)
         is_whole("anew", folder, spool, samples, 2, found)
-        TALLY.same("anew", side.read_text(), "name=anew pcm=44100,1,16 skip=0\n")
+        is_line = re.fullmatch(r"name=anew began=\d{13} pcm=44100,1,16 skip=0\n", side.read_text())
+        TALLY.holds("anew", is_line, side.read_text())
+
+
+def case_earlier_release(folder):
+    """A spool of an earlier release, with a line that says no moment or without a line, goes on without fields."""
+    samples = random.Random(49).randbytes(4 * 30_000)
+    plain = (0, settled(uploads.requests_of(samples, 4)), "")
+    with serving(folder) as server:
+        spool, side = folder / "early.raw", folder / "early.raw.for"
+        words = words_of(server.port, "early", spool, "48000,2,16")
+        TALLY.same("no defaults", run(*words, "--no-defaults", given=samples), plain)
+        line = "name=early pcm=48000,2,16 skip=0\n"
+        TALLY.same("no defaults: the line", side.read_text(), line)
+        TALLY.same("no defaults", fields_of(folder / "takes" / "early.wav"), Fields("", "", "", "", "", 0, ""))
+        TALLY.same("an earlier release's line", run(*words), plain)
+        side.unlink()
+        TALLY.same("without a line", run(*words), plain)
+        TALLY.same("without a line", side.read_text(), line)
+
+
+def wanted_fields(side, name, rate, history):
+    """The fields of a take whose spool keeps this moment, in UTC."""
+    began = int(re.search(r" began=(\d+) ", side.read_text())[1])
+    moment = datetime.datetime.fromtimestamp(began // 1_000, datetime.timezone.utc)
+    reference = f"{moment:%Y%m%d%H%M%S}-{name[-17:]}"
+    samples = began % 86_400_000 * rate // 1_000
+    date, clock = f"{moment:%Y-%m-%d}", f"{moment:%H:%M:%S}"
+    return began, Fields("", "bwingest", reference, date, clock, samples, history)
+
+
+def case_fields(folder):
+    """The fields say when the sender was started; a rerun after a kill has the same, as has `--file` after `--spool`."""
+    samples = random.Random(50).randbytes(4 * 40_000)
+    spool, side = folder / "fields.raw", folder / "fields.raw.for"
+    name = "location-2026-recorder-a-0042"
+    history = "A=PCM,F=44100,W=16,M=stereo,T=bwingest\r\n"
+    with serving(folder) as server:
+        words = words_of(server.port, name, spool, "44100,2,16")
+        first = time.time()
+        sender = start_with_pipes(*words)
+        sender.stdin.write(samples[:100_000])
+        sender.stdin.flush()
+        wait_until(lambda: spool.exists() and spool.stat().st_size == 100_000, "the spool doesn't grow")
+        sender.kill()
+        sender.wait()
+        last = time.time()
+        began, wanted = wanted_fields(side, name, 44_100, history)
+        is_within = first * 1_000 - 1 <= began <= last * 1_000
+        TALLY.holds("fields: the moment", is_within, f"{began} not in {first} .. {last}")
+        time.sleep(1.2)
+        is_whole(name, folder, spool, samples, 4, run(*words, given=samples[100_000:]))
+        TALLY.same("fields", fields_of(folder / "takes" / f"{name}.wav"), wanted)
+        TALLY.same("fields: the moment, kept", wanted_fields(side, name, 44_100, history)[0], began)
+        found = run(*["--file" if word == "--spool" else word for word in words])
+        TALLY.same("fields: the file", found, (0, settled(requests_of(samples, 4)), ""))
+        TALLY.same("fields: the file", fields_of(folder / "takes" / f"{name}.wav"), wanted)
+        spool, side = folder / "set.raw", folder / "set.raw.for"
+        options = ("--set", "date=", "--set", "reference=X1", "--set", "description=River")
+        found = run(*words_of(server.port, "set", spool, "48000,2,24", *options), given=bytes(6))
+        TALLY.same("fields, set", found[0], 0)
+        history = "A=PCM,F=48000,W=24,M=stereo,T=bwingest\r\n"
+        _began, wanted = wanted_fields(side, "set", 48_000, history)
+        wanted = dataclasses.replace(wanted, date="", reference="X1", description="River")
+        TALLY.same("fields, set", fields_of(folder / "takes" / "set.wav"), wanted)
 
 
 def case_full_disk(folder):
@@ -380,7 +452,7 @@ def case_full_disk(folder):
             is_kept = len(kept) > 400_000 and samples.startswith(kept)
             TALLY.holds("a full disk: the spool", is_kept, f"{len(kept)} bytes")
             # its whole blocks have their verdicts before that is said
-            TALLY.same("a full disk: sent", out, settled(1 + len(kept) // LONGEST_BLOCK))
+            TALLY.same("a full disk: sent", out, settled(6 + len(kept) // LONGEST_BLOCK))
     finally:
         subprocess.run(["umount", str(disk)], check=False)
 
@@ -396,6 +468,8 @@ CASES = [
     case_given_up,
     case_one_sender,
     case_other_use,
+    case_earlier_release,
+    case_fields,
     case_no_answer,
     case_full_disk,
     case_link_down,

@@ -81,7 +81,7 @@ def case_live(folder):
     samples = random.Random(31).randbytes(2 * 50_000)
     path, end = folder / "take.raw", folder / "take.done"
     with serving(folder) as server:
-        words = words_of(server.port, "live", path, "--pcm", f"{RATE},1,16", "--block", "1000")
+        words = words_of(server.port, "live", path, "--no-defaults", "--pcm", f"{RATE},1,16", "--block", "1000")
         sender = Sender(*words, "--follow", "--until", str(end))
         with open(path, "ab", buffering=0) as file:
             for at in range(0, len(samples), 2_000):
@@ -123,7 +123,7 @@ def case_standard_input(folder):
     """Standard input that goes into a spool: a wait for it shows the line too."""
     samples = bytes(range(200)) * 10
     with serving(folder) as server:
-        words = ("send", "--connect", f"{LOCAL}:{server.port}", "--name", "spooled", "--pcm", f"{RATE},1,16")
+        words = ("send", "--connect", f"{LOCAL}:{server.port}", "--name", "spooled", "--no-defaults", "--pcm", f"{RATE},1,16")
         sender = Sender(*words, "--spool", str(folder / "spool.raw"), "--block", "100", given=PIPE)
         sender.process.stdin.write(samples)
         sender.process.stdin.flush()

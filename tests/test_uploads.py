@@ -125,7 +125,7 @@ def case_garbage(folder):
 
 def case_rate(folder):
     """With --rate no more bytes go a second, and hardly less; what arrives is the same."""
-    raw = ("--pcm", "48000,1,16")
+    raw = ("--pcm", "48000,1,16", "--no-defaults")
     with serving(folder) as server:
         for name, blocks, rate, options in (
             ("slow", 60, 1_000_000, ()),

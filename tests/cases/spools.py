@@ -11,7 +11,7 @@ from kit.watcher import Watcher
 SPOOL = "s.raw"
 WRITE = 1  # its number
 SAMPLES = random.Random(48).randbytes(2 * 30_000)
-REQUESTS = 4  # OPEN, two blocks, CLOSE
+REQUESTS = 9  # OPEN, five fields, two blocks, CLOSE
 
 
 def words_of(server, name, spool):

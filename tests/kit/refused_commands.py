@@ -156,7 +156,7 @@ def try_file_senders(runs, program):
         "--file": (["--file", sound], (*KINDS, "receive", "send", "connect")),
         "--pcm": ([*pcm, "--file", samples], ("growth", "read", "open", "seek")),
         "--follow": ([*pcm, "--file", samples, "--follow", "--until", end], ("growth", "read", "open", "stat", "seek")),
-        "--spool": ([*pcm, "--spool", spool], ("growth", "read", "write", "open", "seek")),
+        "--spool": ([*pcm, "--no-defaults", "--spool", spool], ("growth", "read", "write", "open", "seek")),
         "--state": (["--file", sound, "--state", kept], ("growth", "read", "write", "open", "sync", "rename")),
     }
     folder = folder_in(runs.work, "taken")

@@ -1,5 +1,7 @@
 """What the scripts that send recordings share: files, servers over them, a relay that counts."""
 import contextlib
+import dataclasses
+import itertools
 import random
 import re
 import select
@@ -75,6 +77,30 @@ def requests_of(samples, align, frames=None):
     """How many requests bring samples: OPEN, a block for each so many frames, CLOSE."""
     size = align * (frames or LONGEST_BLOCK // align)
     return 2 + -(-len(samples) // size)
+
+
+@dataclasses.dataclass(frozen=True)
+class Fields:
+    """Texts of a take's `bext`, and its number of samples since midnight."""
+
+    description: str
+    originator: str
+    reference: str
+    date: str
+    clock: str
+    time: int
+    history: str
+
+
+def fields_of(path):
+    """The fields of the `bext` in a take's file (EBU Tech 3285)."""
+    file = path.read_bytes()
+    at = file.index(b"bext") + 8
+    size = int.from_bytes(file[at - 4 : at], "little")
+    ends = (0, 256, 288, 320, 330, 338)
+    texts = [file[at + first : at + last].rstrip(b"\0").decode() for first, last in itertools.pairwise(ends)]
+    history = file[at + 602 : at + size].rstrip(b"\0").decode()
+    return Fields(*texts, int.from_bytes(file[at + 338 : at + 346], "little"), history)
 
 
 def long_recording(blocks, seed=9):
