@@ -322,8 +322,8 @@ Options:
       --pcm <RATE,CHANNELS,BITS>  With --file or --spool: the input is samples without a header, in this format, as in 48000,2,24
       --skip <BYTES>              With --pcm: the offset of the samples in the file, in bytes [default: 0]
       --block <FRAMES>            With --pcm: sends FRAMES in a block [default: as many as fit in 32768 bytes]
-      --follow                    With --pcm: sends the file while another program is still writing it
-      --until <END>               With --follow: a path that exists once the recording is finished
+      --follow                    With --file: sends the file while another program is still writing it; a WAVE file until its header says the size of its data, or END exists
+      --until <END>               With --follow: a path that exists once the recording is finished; --pcm needs it
       --spool <SPOOL>             With --pcm, instead of --file: appends standard input to SPOOL, and sends it until the input ends
       --no-defaults               With --pcm: leaves bext's fields empty but for those of --set [default: fills originator and history; with --spool also date, clock, time (UTC) and reference]
       --marks <MARKS>             With --follow or --spool: each line 'mark' or 'mark LABEL-ID' that is appended to MARKS becomes a marker there
