@@ -2,5 +2,5 @@
 
 /// The toolchain, and the SHA-256 digest of the sources, a line each.
 pub const BUILD: &str = "toolchain: rattle-kit-13f logic dac8208d650f15bf
-sources: f3c83d829e0b8d4813992dcfdfcdab49228295c5cccce4dfbb5b6186f7431ce1
+sources: e0e0ce8ef078daef7c4cc5d552e29b54ed6d2df3028eadd27766f6d5087f3505
 ";

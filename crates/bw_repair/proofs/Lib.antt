@@ -24,3 +24,10 @@ pub mod Converted
 pub mod RangeReads
 pub mod PieceCompares
 pub mod PutFiles
+pub mod JoinedBytes
+pub mod JoinedHeads
+pub mod JoinedOuters
+pub mod JoinedTakes
+pub mod JoinedLefts
+pub mod OneReading
+pub mod JoinedReadings

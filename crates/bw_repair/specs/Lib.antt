@@ -32,3 +32,4 @@ pub mod Joinings
 pub mod JoinFaults
 pub mod Comparisons
 pub mod Puttings
+pub mod JoinLaws
