@@ -11,7 +11,7 @@ _bwingest() {
     esac
     case ${COMP_WORDS[1]} in
     serve) options='--listen --folder --exchanges --limit --timeout --network --recorders --idle --until-stopped --log --journal --sync --rest --one-name --allow --status --help' ;;
-    send) options='--connect --name --names --rounds --timeout --network --file --set --strict --strict-texts --keep-left-out --fruitless --log --state --rate --receipt --json --pcm --skip --block --follow --until --spool --no-defaults --help' ;;
+    send) options='--connect --name --names --rounds --timeout --network --file --set --strict --strict-texts --keep-left-out --fruitless --log --state --rate --receipt --json --pcm --skip --block --follow --until --spool --no-defaults --marks --help' ;;
     inspect) options='--json --human --digest --help' ;;
     pack) options='--set --strict --strict-texts --keep-left-out --help' ;;
     picture) options='--help' ;;

@@ -275,7 +275,7 @@ def case_strictness(folder):
     TALLY.same("texts, LEFT", left.read_bytes(), riff(F, IXML, data(b"")))
     TALLY.same("strict alone", run("pack", str(path), "--strict")[::2], (1, f"left out: iXML {size_of(IXML)}\n{LOSSY}"))
     left.unlink()
-    wanted = 2, "", "error: '--keep-left-out <LEFT>' can't be given beside '--strict', '--pcm' and '--spool <SPOOL>'\n" + USAGE
+    wanted = 2, "", "error: '--keep-left-out <LEFT>' can't be given beside '--strict', '--pcm', '--spool <SPOOL>' and '--follow'\n" + USAGE
     TALLY.same("pack --strict", run("pack", str(path), "--strict", "--keep-left-out", str(left)), wanted)
     with unseen("options") as port:
         for options in (["--strict"], ["--pcm=48000,1,16"]):

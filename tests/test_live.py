@@ -160,7 +160,7 @@ USAGE = [  # options, and the first words of what is said
     (("--pcm", "48000,1,16", "--until", "end"), "error: '--pcm' is for '--file <FILE>'"),
     (("--skip", "44"), "error: '--pcm' is for '--file <FILE>'"),
     (("--block", "44"), "error: '--pcm' is for '--file <FILE>'"),
-    (("--follow", "--until", "end"), "error: '--pcm' is for '--file <FILE>'"),
+    (("--until", "end"), "error: '--pcm' is for '--file <FILE>'"),
 ]
 
 
