@@ -98,9 +98,10 @@ def case_follow(folder):
         with path.open("ab") as file:
             file.write(second_of_samples(5))
         mark(path, marks, "mark\n", 2)
+        append(marks, "mark 9\n")  # nothing waits until it is seen: no line from before the end is lost
         end.write_bytes(b"")
         TALLY.same("follow: status", finish(sender)[0], 0)
-        TALLY.same("follow: cue points", cues_in(folder, "grows"), [(1, SECOND), (2, 2 * SECOND)])
+        TALLY.same("follow: cue points", cues_in(folder, "grows"), [(1, SECOND), (2, 2 * SECOND), (9, 2 * SECOND)])
 
 
 def case_killed(folder):
