@@ -90,9 +90,3 @@ with_line_at frame k line = with_placed k (placed_mark k.points frame (wish_said
 -- after the lines that were first seen at this frame
 abbrev pub with_lines_at : ℕ → MarksKept → List (List ℕ) → MarksKept
 with_lines_at frame k lines = fold (with_line_at frame) k lines
-
--- after the lines of the marks' file that are new, first seen at some frame; once there are no more
--- markers, nothing is seen
-abbrev pub SeesNew : List (List ℕ) → MarksKept → MarksKept → Type 0
-SeesNew lines k k' = (k.is_ended ≡ true → k' ≡ k)
-    × (k.is_ended ≡ false → (frame : ℕ) × (k' ≡ with_lines_at frame k (drop k.lines lines)))

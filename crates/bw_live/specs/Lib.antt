@@ -3,6 +3,7 @@ pub mod MarkLines
 pub mod MarkPlaces
 pub mod MarkTexts
 pub mod KeptPlaces
+pub mod MarkLooks
 pub mod WaveHeaders
 pub mod SampleBounds
 pub mod Defaults

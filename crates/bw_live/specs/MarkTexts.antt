@@ -18,3 +18,12 @@ mark_text (Err fault) = codes "skipped."
 -- there are no more
 abbrev pub end_text : List ℕ
 end_text = codes "end."
+
+-- what is reported of a line that is no marker: the path of the file of marks, and the line's number from 1
+abbrev pub skipped_text : List ℕ → ℕ → MarkFault → List ℕ
+skipped_text path number fault =
+    codes "send: " ++ path ++ codes ": line " ++ decimal number ++ codes " is skipped: " ++ fault_words fault
+
+-- what is reported of a look that failed
+abbrev pub failed_look_text : List ℕ → List ℕ
+failed_look_text words = codes "send: no marker can be placed now: " ++ words

@@ -1,12 +1,14 @@
 //! Lines are seen, become markers, and are kept.
-ghost use Rattle.std.specs.Prelude.{◌≡◌, ◌≤◌, ◌++◌, [], ℕ, List, IfOk, OnErr, OnOk, Some, codes, drop, string_bytes, take, true};
+ghost use Rattle.std.specs.Prelude.{◌≡◌, ◌++◌, [], ◌∷◌, ℕ, List, IfOk, OnErr, OnOk, Some, codes, drop, false, option_map};
+ghost use Rattle.std.specs.Prelude.{option_to_list, string_bytes, take, true};
 ghost use Rattle.bw_console.specs.Text.{as_line};
-ghost use Rattle.bw_live.specs.KeptPlaces.{GoesOnMarking, SeesNew, marks_header, marks_of, with_line_at, with_lines_at};
-ghost use Rattle.bw_live.specs.MarkLines.{wish_said};
-ghost use Rattle.bw_live.specs.MarkPlaces.{placed_mark};
-ghost use Rattle.bw_live.specs.MarkTexts.{mark_text};
+ghost use Rattle.bw_live.specs.KeptPlaces.{GoesOnMarking, marks_header, marks_of};
+ghost use Rattle.bw_live.specs.MarkLooks.{ArePrinted, KeepsEnd, HasSeen, HasSeenNone, HasSeenSome, MarkKeeping, ReportsFailedLook};
+ghost use Rattle.bw_live.specs.MarkLooks.{SeesNew, SeesSome, StaysElse, begun_text, keeping_of, cut_end, new_keeping};
+ghost use Rattle.bw_live.specs.MarkLooks.{skip_report};
+ghost use Rattle.bw_live.specs.MarkTexts.{end_text, failed_look_text, skipped_text};
 ghost use Rattle.bw_ports.specs.StateReadings.{lines_after};
-ghost use Rattle.bw_stream.specs.Moves.{Writes};
+ghost use Rattle.bw_stream.specs.Moves.{Begins, Writes, one_more};
 
 use crate::answer::MarkFault;
 use crate::entry::{END, entry_line};
@@ -28,6 +30,9 @@ const MOST_READ: usize = 65_536;
 /// What the path of the file that keeps the places has more than the recording's.
 const ENDING: &str = ".marks";
 
+/// What is reported of a failed look where memory for the system's words was refused.
+const NO_MEMORY: &[u8] = b"send: no marker can be placed now: memory was refused\n";
+
 /// Places the markers that the lines of a file ask for, and keeps each place in a file beside the
 /// recording before anything depends on it, so that a later run has the same markers.
 #[derive(Drop)]
@@ -41,9 +46,8 @@ pub struct MarkKeeper<F, E> {
     skip: u64,
     align: u32,
     kept: KeptMarks,
-    /// A failed call was reported.
-    is_told: bool,
-    ghost some: { 1 ≤ align },
+    /// A failed look was reported.
+    is_reported: bool,
 }
 
 impl<F: MarkFiles + Drop, E: Sink + Drop> MarkKeeper<F, E> {
@@ -58,9 +62,15 @@ impl<F: MarkFiles + Drop, E: Sink + Drop> MarkKeeper<F, E> {
         place: &MarkPlace<'_>,
     ) -> io::Result<MarkKeeper<F, E>>
         // What an earlier run kept is gone on with.
-        ensures { IfOk result (λ keeper. (b : List ℕ) →
+        ensures going { IfOk result (λ keeper. (b : List ℕ) →
             F.bytes_at files (place.now.recording.now ++ codes ".marks") ≡ Some b →
-            GoesOnMarking (marks_header place.now.name.now) (take 65_536 b) (marks_of keeper.kept)) }
+            GoesOnMarking (marks_header place.now.name.now) (take 65_536 b) (keeping_of keeper).kept) }
+        ensures begun { IfOk result (λ keeper. (b : List ℕ) →
+            F.bytes_at files (place.now.recording.now ++ codes ".marks") ≡ Some b →
+            F.bytes_at (keeping_of keeper).files (place.now.recording.now ++ codes ".marks")
+            ≡ Some (b ++ begun_text (marks_header place.now.name.now) (take 65_536 b))) }
+        ensures rest { IfOk result (λ keeper. keeping_of keeper
+            ≡ new_keeping place.now faults (keeping_of keeper).files (keeping_of keeper).kept) }
     {
         let mut files = files;
         let keeps = kept_path(alloc, place.recording)?;
@@ -74,44 +84,23 @@ impl<F: MarkFiles + Drop, E: Sink + Drop> MarkKeeper<F, E> {
             marks: String::from_str(alloc, place.marks)?,
             keeps,
             skip: place.skip,
-            align: place.align.max(1),
+            align: place.align,
             kept,
-            is_told: false,
+            is_reported: false,
         })
     }
 
-    /// Places the markers of the lines that are new. A failed call is reported once; the lines are
-    /// seen again by the next look.
-    pub fn look(&mut self) {
-        if let Err(error) = self.take_lines() {
-            self.tell(&error);
-        }
-    }
-
-    /// All markers. No more are placed, now or in a later run.
+    /// Places the markers of the lines that are new, and reports each line that is no marker.
     ///
     /// # Errors
-    /// If the system failed: more may still be placed.
-    pub fn end(&mut self) -> io::Result<Vec<CuePoint>>
-        ensures all { IfOk result (λ points. points.items ≡ self.new.kept.points.items) }
-        ensures ended { OnOk result (self.new.kept.is_ended ≡ true) }
-    {
-        self.take_lines()?;
-        if !self.kept.is_ended {
-            self.files.append(self.keeps.as_str(), END)?;
-            self.kept.is_ended = true;
-        }
-        Ok(Vec::from_slice(self.alloc, self.kept.points.as_slice())?)
-    }
-
-    /// Places the markers of the lines that are new.
+    /// If the system failed: the lines before that were seen; the others are seen by the next look.
     ///
-    /// # Errors
-    /// If the system failed: the lines before that were placed.
-    fn take_lines(&mut self) -> io::Result<()>
-        ensures { OnOk result ((b : List ℕ) →
-            F.bytes_at self.old.files (string_bytes self.old.marks) ≡ Some b →
-            SeesNew (lines_after [] (take 65_536 b)) (marks_of self.old.kept) (marks_of self.new.kept)) }
+    /// # Not specified
+    /// When it fails, and the kind of the error.
+    pub fn look(&mut self) -> io::Result<()>
+        ensures seen { OnOk result (SeesNew F.MarkFiles E.Sink (keeping_of self.old) (keeping_of self.new)) }
+        ensures failed { OnErr result (SeesSome F.MarkFiles E.Sink [] (keeping_of self.old) (keeping_of self.new)) }
+        ensures stays { StaysElse F.MarkFiles E.Sink (keeping_of self.old) (keeping_of self.new) }
     {
         if self.kept.is_ended {
             return Ok(());
@@ -122,17 +111,81 @@ impl<F: MarkFiles + Drop, E: Sink + Drop> MarkKeeper<F, E> {
             return Ok(());
         }
         let len = self.files.len(self.recording.as_str())?;
-        let frame = len.saturating_sub(self.skip) / u64::from(self.align);
+        let frame = len.saturating_sub(self.skip) / u64::from(self.align.max(1));
         self.take_all(new, frame)
+    }
+
+    /// All markers, after a last look. No more are placed, now or in a later run.
+    ///
+    /// # Errors
+    /// If the system failed: more may still be placed.
+    ///
+    /// # Not specified
+    /// When it fails, and the kind of the error.
+    pub fn end(&mut self) -> io::Result<Vec<CuePoint>>
+        ensures all { IfOk result (λ points. points.items ≡ (keeping_of self.new).kept.points) }
+        ensures ended { OnOk result ((seen : MarkKeeping F E) × SeesNew F.MarkFiles E.Sink (keeping_of self.old) seen
+            × KeepsEnd F.MarkFiles E.Sink seen (keeping_of self.new)) }
+        ensures failed { OnErr result
+            (SeesSome F.MarkFiles E.Sink (as_line end_text) (keeping_of self.old) (keeping_of self.new)) }
+        ensures stays { StaysElse F.MarkFiles E.Sink (keeping_of self.old) (keeping_of self.new) }
+    {
+        self.look()?;
+        let points = Vec::from_slice(self.alloc, self.kept.points.as_slice())?;
+        self.keep_end()?;
+        Ok(points)
+    }
+
+    /// Reports a look that failed, the first time.
+    ///
+    /// # Not specified
+    /// How the system words the error, and whether the report was written: only the writer's count of
+    /// failures shows it.
+    pub fn report(&mut self, error: &io::Error)
+        ensures first { (keeping_of self.old).is_reported ≡ false →
+            ReportsFailedLook E.Sink (keeping_of self.old) (keeping_of self.new) }
+        ensures once { (keeping_of self.old).is_reported ≡ true → keeping_of self.new ≡ keeping_of self.old }
+    {
+        if self.is_reported {
+            return;
+        }
+        self.is_reported = true;
+        match failed_line(self.alloc, error) {
+            Ok(line) => print_diagnostic(&mut self.faults, line.as_str().as_bytes()),
+            Err(_refused) => print_diagnostic(&mut self.faults, NO_MEMORY),
+        }
+    }
+
+    /// Keeps that no more markers are placed.
+    ///
+    /// # Errors
+    /// If the system failed.
+    fn keep_end(&mut self) -> io::Result<()>
+        ensures ended { OnOk result (KeepsEnd F.MarkFiles E.Sink (keeping_of self.old) (keeping_of self.new)) }
+        ensures kept { OnErr result ((keeping_of self.new).kept ≡ (keeping_of self.old).kept) }
+        ensures part { OnErr result (Begins (F.bytes_at (keeping_of self.old).files (keeping_of self.old).keeps)
+            (as_line end_text) (F.bytes_at (keeping_of self.new).files (keeping_of self.old).keeps)) }
+        ensures faults { (keeping_of self.new).faults ≡ (keeping_of self.old).faults }
+        ensures stays { StaysElse F.MarkFiles E.Sink (keeping_of self.old) (keeping_of self.new) }
+    {
+        if self.kept.is_ended {
+            return Ok(());
+        }
+        self.files.append(self.keeps.as_str(), END)?;
+        self.kept.is_ended = true;
+        Ok(())
     }
 
     /// Places the markers of these lines at a frame.
     ///
     /// # Errors
-    /// If the system failed: the lines before that were placed.
+    /// If the system failed: the lines before that were seen.
     fn take_all(&mut self, bytes: &[u8], frame: u64) -> io::Result<()>
-        ensures { OnOk result (marks_of self.new.kept
-            ≡ with_lines_at frame (marks_of self.old.kept) (lines_after [] bytes.now)) }
+        ensures seen { OnOk result (HasSeen F.MarkFiles E.Sink frame (lines_after [] bytes.now)
+            (keeping_of self.old) (keeping_of self.new)) }
+        ensures failed { OnErr result (HasSeenSome F.MarkFiles E.Sink frame (lines_after [] bytes.now) []
+            (keeping_of self.old) (keeping_of self.new)) }
+        ensures stays { StaysElse F.MarkFiles E.Sink (keeping_of self.old) (keeping_of self.new) }
     {
         let mut rest = bytes;
         while let Some((line, more)) = first_line(rest) {
@@ -145,43 +198,38 @@ impl<F: MarkFiles + Drop, E: Sink + Drop> MarkKeeper<F, E> {
     /// Places the marker of a line at a frame, and keeps it. A line that is none is reported.
     ///
     /// # Errors
-    /// If the system failed.
+    /// If the system failed: nothing was placed.
     fn take_line(&mut self, line: &[u8], frame: u64) -> io::Result<()>
-        ensures seen { OnOk result (marks_of self.new.kept
-            ≡ with_line_at frame (marks_of self.old.kept) line.now) }
-        ensures kept { OnErr result (marks_of self.new.kept ≡ marks_of self.old.kept) }
-        ensures written { OnOk result (Writes
-            (F.bytes_at self.old.files (string_bytes self.old.keeps))
-            (as_line (mark_text (placed_mark self.old.kept.points.items frame (wish_said line.now))))
-            (F.bytes_at self.new.files (string_bytes self.new.keeps))) }
+        ensures seen { OnOk result (HasSeen F.MarkFiles E.Sink frame (line.now ∷ [])
+            (keeping_of self.old) (keeping_of self.new)) }
+        ensures failed { OnErr result (HasSeenNone F.MarkFiles E.Sink frame line.now
+            (keeping_of self.old) (keeping_of self.new)) }
+        ensures stays { StaysElse F.MarkFiles E.Sink (keeping_of self.old) (keeping_of self.new) }
     {
         let placed = place(self.kept.points.as_slice(), frame, wish_of(line));
+        let report = self.report_on(placed)?;
         let entry = entry_line(&placed);
         self.files
             .append(self.keeps.as_str(), entry.as_str().as_bytes())?;
         self.kept.add(placed)?;
-        if let Err(fault) = placed {
-            let number = self.kept.lines;
-            report_skipped(
-                self.alloc,
-                self.marks.as_str(),
-                number,
-                fault,
-                &mut self.faults,
-            );
-        }
+        print_report(report, &mut self.faults);
         Ok(())
     }
 
-    /// Reports a failed call, the first time.
-    fn tell(&mut self, error: &io::Error) {
-        if self.is_told {
-            return;
-        }
-        self.is_told = true;
-        if let Ok(line) = format!(in self.alloc; "send: no marker can be placed now: {error}\n") {
-            print_diagnostic(&mut self.faults, line.as_str().as_bytes());
-        }
+    /// The report of the next line if it became no marker.
+    ///
+    /// # Errors
+    /// `AllocError` if memory was refused.
+    fn report_on(&self, placed: Result<CuePoint, MarkFault>) -> Result<Option<Vec<u8>>, AllocError>
+        ensures { IfOk result (λ report. option_map (λ text. text.items) report
+            ≡ skip_report (string_bytes self.now.marks) (one_more self.now.kept.lines) placed) }
+    {
+        let Err(fault) = placed else {
+            return Ok(None);
+        };
+        let number = self.kept.lines.saturating_add(1);
+        let line = skipped_line(self.alloc, self.marks.as_str(), number, fault)?;
+        Ok(Some(line))
     }
 }
 
@@ -211,8 +259,10 @@ fn open_kept<F: MarkFiles>(
     path: &str,
     header: &[u8],
 ) -> io::Result<KeptMarks>
-    ensures { IfOk result (λ kept. (b : List ℕ) → F.bytes_at files.old path.now ≡ Some b →
+    ensures going { IfOk result (λ kept. (b : List ℕ) → F.bytes_at files.old path.now ≡ Some b →
         GoesOnMarking header.now (take 65_536 b) (marks_of kept)) }
+    ensures begun { OnOk result ((b : List ℕ) → F.bytes_at files.old path.now ≡ Some b →
+        F.bytes_at files.new path.now ≡ Some (b ++ begun_text header.now (take 65_536 b))) }
 {
     let bytes = files.read(path, MOST_READ)?;
     if bytes.as_slice().is_empty() {
@@ -226,10 +276,21 @@ fn open_kept<F: MarkFiles>(
             "the file of the same name with .marks at its end is of another recording",
         ));
     };
-    if !bytes.as_slice().ends_with(b"\n") {
-        files.append(path, b"\n")?;
-    }
+    end_last_line(files, path, bytes.as_slice())?;
     Ok(kept)
+}
+
+/// KeepsEnd the last line of a file's bytes, if it was cut off.
+///
+/// # Errors
+/// If the system failed.
+fn end_last_line<F: MarkFiles>(files: &mut F, path: &str, bytes: &[u8]) -> io::Result<()>
+    ensures { OnOk result (Writes (F.bytes_at files.old path.now) (cut_end bytes.now) (F.bytes_at files.new path.now)) }
+{
+    if bytes.ends_with(b"\n") {
+        return Ok(());
+    }
+    files.append(path, b"\n")
 }
 
 /// What follows so many lines.
@@ -246,17 +307,28 @@ fn after_lines(bytes: &[u8], count: u64) -> &[u8]
     rest
 }
 
-/// Reports why the line of this number isn't a marker.
-fn report_skipped<E: Sink>(
-    alloc: Global,
-    path: &str,
-    number: u64,
-    fault: MarkFault,
-    faults: &mut E,
-) {
-    if let Ok(line) = skipped_line(alloc, path, number, fault) {
-        print_diagnostic(faults, line.as_slice());
-    }
+/// Prints a report, if there is one.
+fn print_report<E: Sink>(report: Option<Vec<u8>>, faults: &mut E)
+    ensures { ArePrinted E.Sink (option_to_list (option_map (λ text. text.items) report)) faults.old faults.new }
+{
+    let Some(text) = report else {
+        return;
+    };
+    print_diagnostic(faults, text.as_slice());
+}
+
+/// The line that reports a failed look.
+fn failed_line(alloc: Global, error: &io::Error) -> Result<String, AllocError>
+    ensures { IfOk result (λ line. (words : List ℕ) × (string_bytes line ≡ as_line (failed_look_text words))) }
+{
+    let words = format!(in alloc; "{error}")?;
+    failed_line_in(alloc, words.as_str())
+}
+
+fn failed_line_in(alloc: Global, words: &str) -> Result<String, AllocError>
+    ensures { IfOk result (λ line. string_bytes line ≡ as_line (failed_look_text words.now)) }
+{
+    format!(in alloc; "send: no marker can be placed now: {words}\n")
 }
 
 /// The line that says why a line isn't a marker.
@@ -265,7 +337,9 @@ fn skipped_line(
     path: &str,
     number: u64,
     fault: MarkFault,
-) -> Result<Vec<u8>, AllocError> {
+) -> Result<Vec<u8>, AllocError>
+    ensures { IfOk result (λ line. line.items ≡ as_line (skipped_text path.now number fault)) }
+{
     let mut line = Vec::from_slice(alloc, b"send: ")?;
     line.extend_from_slice(path.as_bytes())?;
     line.extend_from_slice(b": line ")?;

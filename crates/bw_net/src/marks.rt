@@ -42,7 +42,7 @@ impl MarkCell {
         }
     }
 
-    /// Places the markers of new lines. Returns whether any are placed.
+    /// Places the markers of new lines; a failed look is reported once. Returns whether any are placed.
     pub(crate) fn look(&self) -> bool {
         let Ok(mut guard) = self.keeper.try_borrow_mut() else {
             return false;
@@ -50,7 +50,9 @@ impl MarkCell {
         let Some(keeper) = guard.as_mut() else {
             return false;
         };
-        keeper.look();
+        if let Err(error) = keeper.look() {
+            keeper.report(&error);
+        }
         true
     }
 
