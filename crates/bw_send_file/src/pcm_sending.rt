@@ -29,8 +29,9 @@ pub(crate) fn send_opened<F: Feed<Fault = FeedFault> + Drop, X: SendingSides, V:
         (record { pause = way.exit.0.now; dial = way.exit.1.0.now }) did
         × HasPacked X.Output.Sink X.Diagnostics.Sink did out.old out.new faults.old faults.new }
 {
-    match opened {
-        Ok(mut feed) => send_feed(errand, &mut feed, way, observer, out, faults),
-        Err(fault) => report_open_fault(way.alloc, "send", errand.path, &fault, faults),
-    }
+    let mut feed = match opened {
+        Ok(feed) => feed,
+        Err(fault) => return report_open_fault(way.alloc, "send", errand.path, &fault, faults),
+    };
+    send_feed(errand, &mut feed, way, observer, out, faults)
 }

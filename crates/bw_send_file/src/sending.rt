@@ -96,15 +96,14 @@ pub(crate) fn send_by<F: Feed<Fault = FeedFault>, X: SendingSides, V: Observer>(
     let fruitless = errand.recorder.fruitless;
     let started = PatientSender { sender, fruitless };
     let Uploaded { sender, outcome } = upload(alloc, started, feed, pause, dial, observer);
-    match feed_fault(outcome) {
-        Ok(fault) => {
-            let stopped = PatientSender { sender, fruitless };
-            let uploaded = settle(alloc, stopped, fault, pause, dial, observer);
-            report_end(alloc, errand.path, &uploaded, out, faults)
-        }
+    let fault = match feed_fault(outcome) {
+        Ok(fault) => fault,
         Err(outcome) => {
             let uploaded = Uploaded { sender, outcome };
-            report_end(alloc, errand.path, &uploaded, out, faults)
+            return report_end(alloc, errand.path, &uploaded, out, faults);
         }
-    }
+    };
+    let stopped = PatientSender { sender, fruitless };
+    let uploaded = settle(alloc, stopped, fault, pause, dial, observer);
+    report_end(alloc, errand.path, &uploaded, out, faults)
 }

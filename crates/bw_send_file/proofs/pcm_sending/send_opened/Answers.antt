@@ -4,8 +4,8 @@ use Rattle.bw_recorder.proofs.PackSteps.{unopened}
 use Rattle.bw_send_file.proofs.SentSo.{sent_so}
 use Rattle.bw_send_file.proofs.pcm_sending.send_opened.Goals as goal
 
-pub returns-in-Ok : goal.returns-in-Ok
-returns-in-Ok g c =
+pub returns : goal.returns
+returns g c =
     let s = c.send_feed.ensures in (
       sent_so Nothing s.0 c.send_feed.result,
       refl,

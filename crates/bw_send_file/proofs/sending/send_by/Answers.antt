@@ -21,11 +21,11 @@ returns-in_default g c = λ s made.
       record { printed = refl; reported = l.2 },
     )
 
-pub returns-in-Ok-feed_fault : goal.returns-in-Ok-feed_fault
-returns-in-Ok-feed_fault g c = λ s made.
+pub returns : goal.returns
+returns g c = λ s made.
     let went = c.upload-sender.ensures s (rw c.in-Ok.is at made) in
     let st = c.settle-uploaded.ensures went.last.filling.sender went.sender_is in
-    let r = c.report_end.ensures st.went.last.filling.sender st.went.sender_is in (
+    let r = c.report_end-2.ensures st.went.last.filling.sender st.went.sender_is in (
       r.0,
       r.1,
       inr (inl (record {
@@ -48,7 +48,7 @@ returns-in-Ok-feed_fault g c = λ s made.
 pub returns-in-Err : goal.returns-in-Err
 returns-in-Err g c = λ s made.
     let went = c.upload-sender.ensures s (rw c.in-Ok.is at made) in
-    let r = c.report_end-in-Err.ensures went.last.filling.sender went.sender_is in
+    let r = c.report_end.ensures went.last.filling.sender went.sender_is in
     let same : c.upload-sender.result.outcome ≡ c.in-Err.outcome = c.in-Err.ensures.err.0 in
     let ends = subst (λ (o : Outcome FeedFault). EndsAfter c.args.begun.errand.path.now went.last.filling.sender o r.0) (sym same) r.2 in (
       r.0,
