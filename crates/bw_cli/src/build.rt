@@ -2,5 +2,5 @@
 
 /// The toolchain, and the SHA-256 digest of the sources, a line each.
 pub const BUILD: &str = "toolchain: rattle-kit-13f logic dac8208d650f15bf
-sources: e0e0ce8ef078daef7c4cc5d552e29b54ed6d2df3028eadd27766f6d5087f3505
+sources: 0424bf434c996d77407657b958fd11c471a600a6b42958984a8acc3338a94986
 ";
