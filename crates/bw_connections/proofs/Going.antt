@@ -18,7 +18,7 @@ use Rattle.bw_exchange.specs.declared.step.StreamEnd.{StreamEnd}
 use Rattle.bw_exchange.specs.declared.step.StreamEnd.TheVariants as streams
 use Rattle.bw_exchange.specs.AnsweredFrames.{Answered, AnswersAll, replies_of}
 use Rattle.bw_exchange.specs.Bounds.{most_before_answer}
-use Rattle.bw_exchange.specs.Done.{AnswersSome, DoesMore, HasDone, MustWait, last_of}
+use Rattle.bw_exchange.specs.Done.{AnswersSome, DoesMore, HasDone, IsIdle, last_of}
 use Rattle.bw_exchange.proofs.Going.{does_none, does_on}
 use Rattle.bw_exchange.specs.Ends.{IsFinal, end_so_far}
 use Rattle.bw_exchange.specs.Parts.{wants_piece, end_of, waiting_in, pending_of}
@@ -34,6 +34,7 @@ use Rattle.bw_connections.specs.Lives.{EndsDrained, EndsServed, IsNoSilence, IsU
 use Rattle.bw_connections.specs.Lives.{Moved, ReadsLink, SendsWaiting, EndsWithFault, Works}
 use Rattle.bw_connections.specs.Lives.{EndsAs, Proceeds, IsInPhase, IsOpen, IsConnectionOver, KeepsPeer, Lives, Settles, Steps}
 use Rattle.bw_connections.specs.Lives.{AnswersHeld, BeginsConnection, expired_at, expired_by, longest_drain, quantum, quiet_since}
+use Rattle.bw_connections.specs.Lives.{silence_of}
 use Rattle.bw_connections.specs.Lives.{HoldsReplies, LeavesNone, LeavesOf, IsDry, IsFinished, IsFull}
 use Rattle.bw_connections.specs.Lives.{Learns, StillReported, ReportsFinish, WhereDrained}
 
@@ -279,27 +280,31 @@ fed_reads G (Ok x) c c' piece writable readable full none some most f = record {
 fed_reads G (Err end) c c' piece writable readable full none some most f = tt
 
 -- What a quantum's calls reported of room and bytes still holds at its end.
-dry_still : {L S : Type 0} (G : LinkGhosts L) (answers : S → Frame → List Reply → S → Type 0) (now : ℕ) (s s' : S)
-    (c d e : Connection L) → AnswersHeld G answers now c d s s' → e.readable ≡ d.readable →
-    StillReported G d.link e.link → IsDry G c → IsDry G e
-dry_still G answers now s s' c d e h bytes reported none =
-    (bytes ∙ (h.readable ∙ none.0), reported.dry (subst (λ l. G.dry l) (sym h.link) none.1))
+dry_still : {L : Type 0} (G : LinkGhosts L) (d e : Connection L) → e.readable ≡ d.readable →
+    StillReported G d.link e.link → IsDry G d → IsDry G e
+dry_still G d e bytes reported none = (bytes ∙ none.0, reported.dry none.1)
 
 full_still : {L S : Type 0} (G : LinkGhosts L) (answers : S → Frame → List Reply → S → Type 0) (now : ℕ) (s s' : S)
-    (b c d e : Connection L) → ReadsLink G b c → AnswersHeld G answers now c d s s' → e.writable ≡ d.writable →
+    (b c d e : Connection L) → AnswersHeld G answers now b c s s' → ReadsLink G c d → e.writable ≡ d.writable →
     StillReported G d.link e.link → IsFull G b → IsFull G e
-full_still G answers now s s' b c d e g h room reported none = (
-  room ∙ (h.writable ∙ (g.writable ∙ none.0)),
-  reported.full (subst (λ l. G.full l) (sym h.link) (g.full none.1)),
+full_still G answers now s s' b c d e h g room reported none = (
+  room ∙ (g.writable ∙ (h.writable ∙ none.0)),
+  reported.full (g.full (subst (λ l. G.full l) (sym h.link) none.1)),
 )
 
--- bytes were taken, then a piece was fed, then frames were answered
-does_in_turn : (a b c d : Exchange) (bytes piece : List ℕ) (answered : List Answered) → DoesMore a [] [] bytes b →
-    DoesMore b piece [] [] c → DoesMore c [] answered [] d → DoesMore a piece answered bytes d
-does_in_turn a b c d bytes piece answered f g h =
-    subst (λ (x : List ℕ). DoesMore a x answered bytes d) (append-nil piece)
-    (subst (λ (x : List ℕ). DoesMore a (piece ++ []) answered x d) (append-nil bytes)
-    (does_on a b d [] (piece ++ []) [] answered bytes [] f (does_on b c d piece [] [] answered [] [] g h)))
+-- bytes were taken, then frames were answered
+answers_then : (a b c : Exchange) (bytes : List ℕ) (answered : List Answered) → DoesMore a [] [] bytes b →
+    DoesMore b [] answered [] c → DoesMore a [] answered bytes c
+answers_then a b c bytes answered f h =
+    subst (λ (x : List ℕ). DoesMore a [] answered x c) (append-nil bytes) (does_on a b c [] [] [] answered bytes [] f h)
+
+-- and then a piece was fed
+does_in_turn : (a c d : Exchange) (bytes piece : List ℕ) (answered : List Answered) → DoesMore a [] answered bytes c →
+    DoesMore c piece [] [] d → DoesMore a piece answered bytes d
+does_in_turn a c d bytes piece answered f g =
+    subst (λ (x : List ℕ). DoesMore a piece answered x d) (append-nil bytes)
+    (subst (λ (x : List Answered). DoesMore a piece x (bytes ++ []) d) (append-nil answered)
+    (does_on a c d [] piece answered [] bytes [] f g))
 
 -- what left, and nothing after it
 pub leaves_on : {L : Type 0} (G : LinkGhosts L) (waiting : List ℕ) (x y z : L) → LeavesOf G waiting x y → LeavesNone G y z →
@@ -318,52 +323,58 @@ pub leaves_of_none : {L : Type 0} (G : LinkGhosts L) (waiting : List ℕ) (x y :
     LeavesOf G waiting x y
 leaves_of_none G waiting x y f = record { bytes = []; left = waiting; waited = refl; taken = no_more G.taken x y f }
 
--- a quantum sends, reads, answers, and looks at the end
+-- a quantum sends, answers, reads, and looks at the end
 pub moved_on : {L S : Type 0} (G : LinkGhosts L) (answers : S → Frame → List Reply → S → Type 0) (now : ℕ) (s s' : S)
-    (r : Result (Unit {0}) ConnectionEnd) (a b c d e : Connection L) → SendsWaiting G a b → ReadsLink G b c →
-    (h : AnswersHeld G answers now c d s s') → Settles now r d e → StillReported G d.link e.link →
+    (r : Result (Unit {0}) ConnectionEnd) (a b c d e : Connection L) → SendsWaiting G a b →
+    (h : AnswersHeld G answers now b c s s') → ReadsLink G c d → Settles now r d e → StillReported G d.link e.link →
     OnOk r (Moved G a h.answered e)
-moved_on G answers now s s' (Err end) a b c d e f g h k reported = tt
-moved_on G answers now s s' (Ok x) a b c d e f g h k reported = record {
+moved_on G answers now s s' (Err end) a b c d e f h g k reported = tt
+moved_on G answers now s s' (Ok x) a b c d e f h g k reported = record {
   piece = g.piece;
   bytes = f.bytes;
   left = waiting_in b.exchange;
   waited = f.left;
   most = g.most;
   does = subst (DoesMore a.exchange g.piece h.answered f.bytes) (sym k.1)
-      (does_in_turn a.exchange b.exchange c.exchange d.exchange f.bytes g.piece h.answered f.does g.does h.does);
-  reads = λ bytes wants none. reads (g.some (f.readable ∙ bytes) (f.wants_read ∙ wants, none));
-  held = λ some. (g.held some).0;
-  waits = λ few. subst MustWait (sym k.1) (h.waits few);
+      (does_in_turn a.exchange c.exchange d.exchange f.bytes g.piece h.answered
+      (answers_then a.exchange b.exchange c.exchange f.bytes h.answered f.does h.does) g.does);
+  reads = λ bytes wants none. reads (g.some (h.readable ∙ (f.readable ∙ bytes)) (up (f.wants_read ∙ wants) none));
+  held = λ some. (g.held (let grows = h.grows in omega (arith, some, grows))).0;
+  between = c.exchange;
+  answers = answers_then a.exchange b.exchange c.exchange f.bytes h.answered f.does h.does;
+  feeds = subst (DoesMore c.exchange g.piece [] []) (sym k.1) g.does;
+  waits = h.waits;
   sends = λ room some. stands (f.some room some);
 }
   where
-    reads : (1 ≤ length g.piece) ⊎ (is_some (end_of c.exchange) ≡ true) ⊎ IsDry G c →
+    up : wants_piece b.exchange ≡ true → waiting_in b.exchange ≡ [] → IsUpToDate c.exchange
+    up wants none = subst IsUpToDate (sym (h.idle (inl wants))) (wants, none)
+
+    reads : (1 ≤ length g.piece) ⊎ (is_some (end_of d.exchange) ≡ true) ⊎ IsDry G d →
         (1 ≤ length g.piece) ⊎ (is_some (end_of e.exchange) ≡ true) ⊎ IsDry G e
     reads (inl n) = inl n
-    reads (inr (inl ended)) =
-        let still = ap (λ (x : Exchange). is_some (end_of x)) (h.over ended) in
-        inr (inl (ap (λ (x : Exchange). is_some (end_of x)) k.1 ∙ (still ∙ ended)))
-    reads (inr (inr none)) = inr (inr (dry_still G answers now s s' c d e h k.4 reported none))
+    reads (inr (inl ended)) = inr (inl (ap (λ (x : Exchange). is_some (end_of x)) k.1 ∙ ended))
+    reads (inr (inr none)) = inr (inr (dry_still G d e k.4 reported none))
 
     stands : (1 ≤ length f.bytes) ⊎ IsFull G b → (1 ≤ length f.bytes) ⊎ IsFull G e
     stands (inl n) = inl n
-    stands (inr none) = inr (full_still G answers now s s' b c d e g h k.5 reported none)
+    stands (inr none) = inr (full_still G answers now s s' b c d e h g k.5 reported none)
 
 -- what it learns of bytes and room
 pub learns_on : {L S : Type 0} (G : LinkGhosts L) (answers : S → Frame → List Reply → S → Type 0) (now : ℕ) (s s' : S)
-    (r : Result (Unit {0}) ConnectionEnd) (a b c d e : Connection L) → SendsWaiting G a b → ReadsLink G b c →
-    AnswersHeld G answers now c d s s' → Settles now r d e → StillReported G d.link e.link → OnOk r (Learns G a e)
-learns_on G answers now s s' (Err end) a b c d e f g h k reported = tt
-learns_on G answers now s s' (Ok x) a b c d e f g h k reported = record { bytes = bytes g.reported; room = room f.room }
+    (r : Result (Unit {0}) ConnectionEnd) (a b c d e : Connection L) → SendsWaiting G a b →
+    AnswersHeld G answers now b c s s' → ReadsLink G c d → Settles now r d e → StillReported G d.link e.link →
+    OnOk r (Learns G a e)
+learns_on G answers now s s' (Err end) a b c d e f h g k reported = tt
+learns_on G answers now s s' (Ok x) a b c d e f h g k reported = record { bytes = bytes g.reported; room = room f.room }
   where
-    bytes : (c.readable ≡ b.readable) ⊎ IsDry G c → (e.readable ≡ a.readable) ⊎ IsDry G e
-    bytes (inl same) = inl (k.4 ∙ (h.readable ∙ (same ∙ f.readable)))
-    bytes (inr none) = inr (dry_still G answers now s s' c d e h k.4 reported none)
+    bytes : (d.readable ≡ c.readable) ⊎ IsDry G d → (e.readable ≡ a.readable) ⊎ IsDry G e
+    bytes (inl same) = inl (k.4 ∙ (same ∙ (h.readable ∙ f.readable)))
+    bytes (inr none) = inr (dry_still G d e k.4 reported none)
 
     room : (b.writable ≡ a.writable) ⊎ IsFull G b → (e.writable ≡ a.writable) ⊎ IsFull G e
-    room (inl same) = inl (k.5 ∙ (h.writable ∙ (g.writable ∙ same)))
-    room (inr none) = inr (full_still G answers now s s' b c d e g h k.5 reported none)
+    room (inl same) = inl (k.5 ∙ (g.writable ∙ (h.writable ∙ same)))
+    room (inr none) = inr (full_still G answers now s s' b c d e h g k.5 reported none)
 
 -- of the same connections
 pub learns_at : {L : Type 0} (G : LinkGhosts L) (was c new c' : Connection L) → was ≡ c → new ≡ c' → Learns G was new →
@@ -553,11 +564,11 @@ new_end G l (Some end) h = inl h
 
 -- frames were answered of one whose stream had not ended
 pub answers_held : {L S : Type 0} (G : LinkGhosts L) (answers : S → Frame → List Reply → S → Type 0) (now count : ℕ)
-    (s s' : S) (c c' : Connection L) → c.phase ≡ phases.Serving → is_some (end_of c.exchange) ≡ false →
+    (s s' : S) (c c' : Connection L) → c.phase ≡ phases.Serving → wants_piece c.exchange ≡ false → is_some (end_of c.exchange) ≡ false →
     c'.link ≡ c.link → c'.readable ≡ c.readable → c'.writable ≡ c.writable → c'.number ≡ c.number → c'.phase ≡ c.phase →
     (h : AnswersSome answers quantum count s s' c.exchange c'.exchange) →
     c'.since ≡ quiet_since now c.since c.phase c.phase h.0.answered → AnswersHeld G answers now c c' s s'
-answers_held {L} G answers now count s s' c c' serving running link readable writable number phase h since = record {
+answers_held {L} G answers now count s s' c c' serving fed running link readable writable number phase h since = record {
   answered = h.0.answered;
   by_server = h.0.by_server;
   most = h.0.most;
@@ -565,7 +576,8 @@ answers_held {L} G answers now count s s' c c' serving running link readable wri
       (subst (λ (l : L). Moves G [] [] c.link l) (sym link) (still G c.link)) h.0.does
       (λ before fed gone d was. new_end G c'.link (end_of c'.exchange) (h.0.final running fed before gone d));
   does = h.0.does;
-  over = λ over. (let both = sym running ∙ over in absurd cc);
+  idle = goes_on;
+  grows = h.0.grows;
   waits = h.0.stops;
   link = link;
   readable = readable;
@@ -574,19 +586,23 @@ answers_held {L} G answers now count s s' c c' serving running link readable wri
   phase = phase;
   since = since;
 }
+  where
+    goes_on : IsIdle c.exchange → c'.exchange ≡ c.exchange
+    goes_on (inl wants) = absurd (let both = sym fed ∙ wants in cc)
+    goes_on (inr over) = absurd (let both = sym running ∙ over in cc)
 
--- none were answered of one whose stream had ended
+-- none were answered of one that can't have any answered
 pub answers_none : {L S : Type 0} (G : LinkGhosts L) (answers : S → Frame → List Reply → S → Type 0) (now : ℕ) (s : S)
-    (c : Connection L) → c.phase ≡ phases.Serving → is_some (end_of c.exchange) ≡ true →
-    AnswersHeld G answers now c c s s
-answers_none G answers now s c serving over = record {
+    (c : Connection L) → c.phase ≡ phases.Serving → IsIdle c.exchange → AnswersHeld G answers now c c s s
+answers_none G answers now s c serving idle = record {
   answered = [];
   by_server = refl;
   most = omega arith;
   steps = λ before l. subst (Lives G c) (sym (append-nil before)) l;
   does = does_none c.exchange;
-  over = λ over. refl;
-  waits = λ few. inl (inr over);
+  idle = λ idle. refl;
+  grows = omega arith;
+  waits = λ few. inl idle;
   link = refl;
   readable = refl;
   writable = refl;
@@ -697,9 +713,9 @@ expires G now idle c end is before l = record {
   taken = l.taken;
   done = subst (λ (x : List Answered). HasDone l.fed x l.gone c.exchange) (sym (append-nil before)) l.done;
   at_end = l.at_end;
-  by_end = expired_as c.phase idle (now - c.since) end c.exchange l.unread is l.by_phase;
-  fault = expired_well c.phase idle (now - c.since) end (G.broken c.link) is;
-  finished = expired_finished c.phase idle (now - c.since) end (G.finished c.link) is l.finished;
+  by_end = expired_as c.phase idle (silence_of now c) end c.exchange l.unread is l.by_phase;
+  fault = expired_well c.phase idle (silence_of now c) end (G.broken c.link) is;
+  finished = expired_finished c.phase idle (silence_of now c) end (G.finished c.link) is l.finished;
 }
 
 -- a connection whose replies may not leave is over

@@ -1,3 +1,5 @@
 mod Going
 pub mod Standing
 mod Serving
+mod Digesting
+pub mod Resting

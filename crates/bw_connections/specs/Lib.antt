@@ -4,3 +4,4 @@ pub mod ConnectionTables
 pub mod Places
 pub mod Quanta
 pub mod ConnectionBytes
+pub mod HeldBodies

@@ -1,5 +1,5 @@
 -- What a connection has done so far, what a call adds to it, and what is left of one that is over.
-use Rattle.std.specs.Prelude.{◌≡◌, ◌⊎◌, ℕ, ◌+◌, ◌-◌, ◌≤◌, ◌<◌, true, false, Bool, not, ◌||◌}
+use Rattle.std.specs.Prelude.{◌≡◌, ◌⊎◌, ℕ, ◌+◌, ◌-◌, ◌≤◌, ◌<◌, true, false, Bool, not, ◌||◌, ◌&&◌}
 use Rattle.std.specs.Prelude.{Option, Some, None}
 use Rattle.std.specs.Prelude.{Result, Ok, Err, IfErr, IfSome, IsTrue, OnOk, List, [], ◌∷◌, ◌++◌, length}
 use Rattle.std.specs.Prelude.{nat_lt}
@@ -7,6 +7,7 @@ use Rattle.std.specs.Prelude.{if◌then◌else◌, is_some}
 use Rattle.std.specs.declared.net.socket_addr.SocketAddr.{SocketAddr}
 use Rattle.bw_model.specs.Wire.{Cut, Frame, are_bytes}
 use Rattle.bw_model.specs.Replies.{Reply}
+use Rattle.bw_wire.specs.Framings.{has_whole_frame}
 use Rattle.bw_wire.specs.Held.{longest_message_piece, longest_stream}
 use Rattle.bw_wire.specs.Reasons.{reason_meaning}
 use Rattle.bw_wire.specs.declared.fault.WireFault.{WireFault}
@@ -112,7 +113,7 @@ pub record LeavesOf {L : Type 0} (G : LinkGhosts L) (waiting : List ℕ) (l l' :
 abbrev pub LeavesNone : {L : Type 0} → LinkGhosts L → L → L → Type 0
 LeavesNone G l l' = (ys : List ℕ) → G.taken l ys → G.taken l' ys
 
--- What a quantum of one that is served moved: it sent, then it read, then these frames were answered.
+-- What a quantum of one that is served moved: it sent, then these frames were answered, then it read.
 pub record Moved {L : Type 0} (G : LinkGhosts L) (c : Connection L) (answered : List Answered)
     (c' : Connection L) : Type 0 where
   pub piece : List ℕ
@@ -126,8 +127,12 @@ pub record Moved {L : Type 0} (G : LinkGhosts L) (c : Connection L) (answered : 
       (1 ≤ length piece) ⊎ (is_some (end_of c'.exchange) ≡ true) ⊎ IsDry G c'
   -- while replies wait nothing is read
   pub held : 1 ≤ length left → piece ≡ []
-  -- fewer frames than a quantum were answered only if the exchange must wait
-  pub waits : length answered < quantum → MustWait c'.exchange
+  -- Fewer frames than a quantum were answered only if the exchange had to wait then, before that
+  -- piece was fed.
+  pub between : Exchange
+  pub answers : DoesMore c.exchange [] answered bytes between
+  pub feeds : DoesMore between piece [] [] c'.exchange
+  pub waits : length answered < quantum → MustWait between
   -- some went where replies waited, if there might be room, or there is none now
   pub sends : c.writable ≡ true → 1 ≤ length (waiting_in c.exchange) → (1 ≤ length bytes)
       ⊎ IsFull G c'
@@ -202,6 +207,31 @@ can_go_on c = goes c.phase (waiting_in c.exchange)
     goes phases.Serving [] = c.readable || not (wants_piece c.exchange)
     goes phases.Serving (b ∷ bs) = c.writable
 
+-- whether nothing can be done in this phase, by the bytes that wait, whether a piece is wanted, and
+-- whether its link may have bytes
+abbrev pub rests_by : Phase → List ℕ → Bool → Bool → Bool
+rests_by (phases.Draining fault) waiting wants bytes = false
+rests_by phases.Serving [] wants bytes = wants && not bytes
+rests_by phases.Serving (b ∷ bs) wants bytes = false
+
+-- whether it is served and nothing can be done now: nothing waits or is held, and its link has no
+-- bytes
+abbrev pub rests_now : {L : Type 0} → Connection L → Bool
+rests_now c = rests_by c.phase (waiting_in c.exchange) (wants_piece c.exchange) c.readable
+
+-- how long it is quiet, by its phase, the bytes that wait, whether it holds a whole frame, and how
+-- long nothing was answered: not at all if the next quantum answers that frame
+abbrev pub silence_by : Phase → List ℕ → Bool → ℕ → ℕ
+silence_by phases.Serving [] true quiet = 0
+silence_by phases.Serving [] false quiet = quiet
+silence_by phases.Serving (b ∷ bs) whole quiet = quiet
+silence_by (phases.Draining fault) waiting whole quiet = quiet
+
+-- how long it is quiet at a time
+abbrev pub silence_of : {L : Type 0} → ℕ → Connection L → ℕ
+silence_of now c = silence_by c.phase (waiting_in c.exchange)
+    (has_whole_frame (pending_of c.exchange).bytes) (now - c.since)
+
 -- how a connection that is quiet for so long ends, by its phase: where that is longer than this
 -- many milliseconds, or it was drained for long enough
 abbrev pub expired_by : Phase → ℕ → ℕ → Option ConnectionEnd
@@ -211,7 +241,7 @@ expired_by (phases.Draining fault) idle quiet =
 
 -- how it ends at a time
 abbrev pub expired_at : {L : Type 0} → ℕ → ℕ → Connection L → Option ConnectionEnd
-expired_at now idle c = expired_by c.phase idle (now - c.since)
+expired_at now idle c = expired_by c.phase idle (silence_of now c)
 
 -- the time since which a connection is quiet: that of the quantum where a frame was answered in it,
 -- or its draining began
@@ -297,8 +327,9 @@ module _ {L : Type 0} (G : LinkGhosts L) where
     pub most : length answered ≤ quantum
     pub steps : Steps c answered c'
     pub does : DoesMore c.exchange [] answered [] c'.exchange
-    -- if its stream has ended nothing is answered
-    pub over : is_some (end_of c.exchange) ≡ true → c'.exchange ≡ c.exchange
+    -- if nothing can be answered the exchange stays as it is
+    pub idle : IsIdle c.exchange → c'.exchange ≡ c.exchange
+    pub grows : length (waiting_in c.exchange) ≤ length (waiting_in c'.exchange)
     pub waits : length answered < quantum → MustWait c'.exchange
     pub link : c'.link ≡ c.link
     pub readable : c'.readable ≡ c.readable

@@ -1,11 +1,11 @@
 -- The places of many connections.
-use Rattle.std.specs.Prelude.{ℕ, Bool, false, Option, Some, None, slice_get, vec_len, is_none}
+use Rattle.std.specs.Prelude.{ℕ, Bool, true, false, Option, Some, None, slice_get, vec_len, is_none}
 use Rattle.std.specs.List.{position}
 use Rattle.bw_connections.specs.declared.connection.Connection.{Connection}
 use Rattle.bw_connections.specs.declared.connection.ConnectionEnd.{ConnectionEnd}
 use Rattle.bw_connections.specs.declared.connections.Closed.{Closed}
 use Rattle.bw_connections.specs.declared.connections.Connections.{Connections}
-use Rattle.bw_connections.specs.Lives.{can_go_on, expired_at}
+use Rattle.bw_connections.specs.Lives.{can_go_on, expired_at, rests_now}
 
 -- how many there are
 abbrev pub connection_count : {L : Type 0} → Connections L → ℕ
@@ -30,6 +30,15 @@ can_go_on_at {L} m place = goes (slice_get m.places.items place)
     goes : Option (Option (Connection L)) → Bool
     goes (Some (Some c)) = can_go_on c
     goes _ = false
+
+-- whether nothing can be done at a place: no connection is there, or one of which nothing waits or
+-- is held, and whose link has no bytes
+abbrev pub rests_at : {L : Type 0} → Connections L → ℕ → Bool
+rests_at {L} m place = rests (slice_get m.places.items place)
+  where
+    rests : Option (Option (Connection L)) → Bool
+    rests (Some (Some c)) = rests_now c
+    rests _ = true
 
 -- how the connection at a place ends at a time, if there is one and it was quiet for longer than
 -- this many milliseconds, or drained for long enough

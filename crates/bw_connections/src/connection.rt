@@ -40,7 +40,7 @@ pub(crate) enum Phase {
 pub(crate) struct Connection<L> {
     pub(crate) link: L,
     pub(crate) number: u64,
-    exchange: Exchange,
+    pub(crate) exchange: Exchange,
     phase: Phase,
     /// Whether there may be bytes to read: until the link says that there are none.
     readable: bool,
@@ -54,8 +54,8 @@ impl<L: Link> Connection<L> {
     ghost use Rattle.bw_connections.specs.Lives.{BeginsConnection, Proceeds, KeepsConnection};
     ghost use Rattle.bw_connections.specs.Lives.{AnswersHeld, Settles, Works};
     ghost use Rattle.bw_connections.specs.Lives.{EndsDrained, IsUpToDate, KeepsPeer, ReadsLink};
-    ghost use Rattle.bw_connections.specs.Lives.{HoldsReplies, SendsWaiting, LeavesNone, LeavesOf, can_go_on};
-    ghost use Rattle.bw_connections.specs.Lives.{IsFinished, Learns, DropsSent, StillReported, expired_at};
+    ghost use Rattle.bw_connections.specs.Lives.{HoldsReplies, SendsWaiting, LeavesNone, LeavesOf, can_go_on, rests_now};
+    ghost use Rattle.bw_connections.specs.Lives.{IsFinished, Learns, DropsSent, StillReported, expired_at, silence_of};
 
     /// Creates a connection over this link, which has given and taken nothing yet.
     ///
@@ -107,12 +107,45 @@ impl<L: Link> Connection<L> {
         self.writable
     }
 
+    /// Whether it is served and nothing can be done now: nothing waits or is held, and its link has
+    /// no bytes.
+    pub(crate) fn rests(&self) -> bool
+        ensures { result ≡ rests_now self.now }
+    {
+        if let Phase::Draining(_fault) = self.phase {
+            return false;
+        }
+        if self.exchange.outgoing().is_empty() {
+            return self.exchange.wants_read() && !self.readable;
+        }
+        false
+    }
+
+    /// How long it is quiet at time `now`, in milliseconds: not at all if it holds a whole frame that
+    /// the next quantum answers.
+    fn silence(&self, now: u64) -> u64
+        ensures { result ≡ silence_of now self.now }
+    {
+        let quiet = now.saturating_sub(self.since);
+        if let Phase::Draining(_fault) = self.phase {
+            return quiet;
+        }
+        if self.exchange.outgoing().is_empty() {
+            return if self.exchange.framer().has_frame() {
+                0
+            } else {
+                quiet
+            };
+        }
+        quiet
+    }
+
     /// How it ends at time `now`, if nothing has been answered for longer than `idle` milliseconds,
     /// or it has been drained for long enough.
     pub(crate) fn expired(&self, now: u64, idle: u64) -> Option<ConnectionEnd>
         ensures { result ≡ expired_at now idle self.now }
     {
-        let quiet = now.saturating_sub(self.since);
+        let quiet = self.silence(now);
         match self.phase {
             Phase::Serving => (quiet > idle).then_some(ConnectionEnd::Idle),
             Phase::Draining(fault) => (quiet > LONGEST_DRAIN).then_some(ConnectionEnd::Over(
@@ -132,10 +165,11 @@ impl<L: Link> Connection<L> {
         }
     }
 
-    /// One quantum: some of the unsent bytes are sent, a piece is read if one is wanted, and frames
-    /// are answered. So nothing leaves but what waited before the quantum, and a reply leaves in the
-    /// quantum after that in which it is made. No piece is read before all replies are sent: from a
-    /// peer that doesn't read its replies nothing more is read.
+    /// One quantum: some of the unsent bytes are sent, frames that are held are answered, and a
+    /// piece is read if one is wanted. So nothing leaves but what waited before the quantum, a frame
+    /// is answered in the quantum after that in which it is read, when it may have been hashed with
+    /// those of other connections, and its replies leave in the one after that. No piece is read
+    /// before all replies are sent: from a peer that doesn't read its replies nothing more is read.
     ///
     /// # Errors
     /// How the connection ended.
@@ -152,8 +186,8 @@ impl<L: Link> Connection<L> {
             return self.drain(fault, buffer);
         }
         self.send_waiting()?;
-        self.receive_piece(buffer)?;
         self.answer_held(server, now);
+        self.receive_piece(buffer)?;
         self.settle(now)
     }
 
@@ -239,7 +273,7 @@ impl<L: Link> Connection<L> {
         requires { self.old.phase ≡ Phase.Serving }
         ensures { AnswersHeld L.Link T.answers now self.old self.new server.old server.new }
     {
-        if self.exchange.end().is_some() {
+        if self.exchange.wants_read() || self.exchange.end().is_some() {
             return;
         }
         if self.exchange.answer(server, QUANTUM) == 0 {

@@ -57,7 +57,7 @@ fn put_at<L: Drop>(places: &mut Vec<Option<Connection<L>>>, place: usize, connec
 /// ever has.
 #[derive(Drop)]
 pub struct Connections<L> {
-    places: Vec<Option<Connection<L>>>,
+    pub(crate) places: Vec<Option<Connection<L>>>,
     next: u64,
     /// Stays at 2^64 - 1.
     refused: u64,
@@ -67,7 +67,7 @@ impl<L: Link + Drop> Connections<L> {
     ghost use Rattle.bw_connections.specs.ConnectionTables.{KeepsConnections, Adds, IsFree, those};
     ghost use Rattle.bw_connections.specs.Quanta.{BeginsAt, EndsIts, IsEmpty, LeavesOthers, RefusesLink, StaysAt};
     ghost use Rattle.bw_connections.specs.Quanta.{ExistedAt, ExistedUnder, HoldsNoReplies, WakesAt, WorksAt};
-    ghost use Rattle.bw_connections.specs.Places.{begun_of, connection_count, can_go_on_at};
+    ghost use Rattle.bw_connections.specs.Places.{begun_of, connection_count, can_go_on_at, rests_at};
     ghost use Rattle.bw_connections.specs.Places.{end_of_connection, expired_there};
     ghost use Rattle.bw_connections.specs.Places.{first_free_place, refused_of};
 
@@ -135,6 +135,17 @@ impl<L: Link + Drop> Connections<L> {
         connection.can_go_on()
     }
 
+    /// Whether nothing can be done at a place: no connection is there, or one of which nothing waits
+    /// or is held, and whose link has no bytes.
+    pub fn rests(&self, place: usize) -> bool
+        ensures { result ≡ rests_at self.now place }
+    {
+        let Some(Some(connection)) = self.places.get(place) else {
+            return true;
+        };
+        connection.rests()
+    }
+
     /// Begins a connection at a free place, at a time in milliseconds.
     ///
     /// # Errors
@@ -191,8 +202,8 @@ impl<L: Link + Drop> Connections<L> {
         put_at(&mut self.places, place, connection);
     }
 
-    /// One quantum of the connection at a place, at a time in milliseconds: it reads, then answers,
-    /// then sends. Returns the connection if it is over.
+    /// One quantum of the connection at a place, at a time in milliseconds: it sends, then answers,
+    /// then reads. Returns the connection if it is over.
     ///
     /// At most 64 frames are answered. `buffer` has at most 524,960 bytes.
     ///
@@ -212,6 +223,9 @@ impl<L: Link + Drop> Connections<L> {
         // What continues made progress, or its link reported none now; none ends here for silence.
         ensures { WorksAt L.Link T.answers place now result self.old self.new server.old server.new }
     {
+        if self.rests(place) {
+            return None;
+        }
         let Some(mut connection) = take_at(&mut self.places, place) else {
             return None;
         };
@@ -224,8 +238,19 @@ impl<L: Link + Drop> Connections<L> {
         }
     }
 
+    /// How the connection at a place ends for silence, if it does.
+    fn expired_at(&self, place: usize, now: u64, idle: u64) -> Option<ConnectionEnd>
+        ensures { result ≡ expired_there now idle self.now place }
+    {
+        let Some(Some(connection)) = self.places.get(place) else {
+            return None;
+        };
+        connection.expired(now, idle)
+    }
+
     /// Ends the connection at a place if it was quiet for longer than `idle` milliseconds, or
-    /// drained for longer than 2,000, and returns it.
+    /// drained for longer than 2,000, and returns it. One that holds a whole frame which its next
+    /// quantum answers isn't quiet.
     pub fn expire(&mut self, place: usize, now: u64, idle: u64) -> Option<Closed<L>>
         requires place { place < connection_count self.old }
         ensures adds { Adds L.Link self.old [] (those result) self.new }
@@ -236,6 +261,9 @@ impl<L: Link + Drop> Connections<L> {
         ensures stands { ExistedAt place self.old self.new }
         ensures left { IfSome result (λ x. IsEmpty place self.new) }
     {
+        if self.expired_at(place, now, idle).is_none() {
+            return None;
+        }
         let Some(connection) = take_at(&mut self.places, place) else {
             return None;
         };

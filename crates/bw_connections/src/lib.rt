@@ -5,6 +5,7 @@
 
 mod connection;
 mod connections;
+mod hashing;
 pub mod laws;
 
 pub use connection::ConnectionEnd;

@@ -17,6 +17,11 @@ pub no_end : (e : Option StreamEnd) → is_some e ≡ false → IfSome (end_so_f
 no_end None h = tt
 no_end (Some end) h = absurd cc
 
+-- what waits is put after what waited
+pub kept_waiting : (waiting more waiting' : List ℕ) → waiting' ≡ waiting ++ more → length waiting ≤ length waiting'
+kept_waiting waiting more waiting' is =
+    let len = ap (λ (x : List ℕ). length x) is ∙ length-append waiting more in omega (arith, len)
+
 -- no frame is answered
 pub up_to_none : {S : Type 0} (answers : S → Frame → List Reply → S → Type 0) (s : S) (e : Exchange) →
     AnswersSome answers 0 0 s s e e
@@ -29,6 +34,7 @@ up_to_none answers s e = (
     stops = λ h. absurd (omega (arith, h));
     final = λ none fed before gone d. no_end e.end none;
     uses_up = omega arith;
+    grows = omega arith;
   },
   refl,
 )
@@ -53,6 +59,7 @@ up_to_more answers n s mid later a b c f goes g =
             g.final (runs (is_some b.end) refl) (fed ++ []) (before ++ f.answered) (gone ++ [])
             (f.does fed before gone d);
         uses_up = omega (arith, f.uses_up, g.uses_up, len);
+        grows = omega (arith, f.grows, g.grows);
       },
       len,
     )
@@ -98,6 +105,7 @@ some_of answers n turns s later a b le waits f = (
     stops = λ h. waits;
     final = f.0.final;
     uses_up = f.0.uses_up;
+    grows = f.0.grows;
   },
   f.1,
 )
@@ -119,6 +127,7 @@ some_stopped answers n turns false s mid later a b c is le f goes g =
         stops = λ h. more.0.stops (omega (arith, len));
         final = more.0.final;
         uses_up = more.0.uses_up;
+        grows = more.0.grows;
       },
       omega (arith, len),
     )

@@ -218,6 +218,7 @@ batch_kept answers n count true s mid t t' a b c is f running g k =
       final = λ none fed before gone d.
           g.0.final running (fed ++ []) (before ++ f.0.answered) (gone ++ []) (f.0.does fed before gone d);
       uses_up = (let u = f.0.uses_up in let v = g.0.uses_up in omega (arith, u, v, len));
+      grows = (let u = f.0.grows in let v = g.0.grows in omega (arith, u, v));
     }
 
 -- no frame is answered, and more may be asked for
@@ -233,6 +234,7 @@ batch_none answers n s t a b f =
       stops = λ h. f.0.stops (omega (arith, none));
       final = f.0.final;
       uses_up = f.0.uses_up;
+      grows = f.0.grows;
     }
 
 -- ---- it ends

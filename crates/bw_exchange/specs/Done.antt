@@ -72,6 +72,8 @@ pub record AnswersUpTo {S : Type 0} (answers : S → Frame → List Reply → S 
       HasDone fed before gone e → IfSome (end_so_far (end_of e')) IsFinal
   -- each frame uses up some of the bytes that are held
   pub uses_up : length answered + length (pending_of e').bytes ≤ length (pending_of e).bytes
+  -- and no reply that waits is lost
+  pub grows : length (waiting_in e) ≤ length (waiting_in e')
 
 -- these frames are the first of the stream of these bytes
 abbrev pub AreFirstOf : List Frame → List ℕ → Type 0

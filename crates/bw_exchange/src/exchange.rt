@@ -1,6 +1,7 @@
 //! An exchange as a state machine without I/O: bytes go in, frames are answered, bytes come out.
 ghost use Rattle.std.specs.Prelude.{◌≡◌, ◌+◌, ◌≤◌, [], length, take, drop, true, false, IfOk, OnOk};
 ghost use Rattle.std.specs.Prelude.{OnErr, None, vec_len, vec_capacity, is_some, if◌then◌else◌};
+ghost use Rattle.bw_wire.specs.BodyDigests.{held_bytes, IsDigestOf};
 ghost use Rattle.bw_wire.specs.Codecs.{message_codec};
 ghost use Rattle.bw_wire.specs.Held.{longest_rest, longest_message_piece};
 ghost use Rattle.bw_wire.specs.FramerStates.{Nothing, next_of, KeepsAtMost, HasBoundedBlock};
@@ -11,7 +12,7 @@ ghost use Rattle.bw_exchange.specs.FeedResults.{IsFeeding};
 use crate::outgoing::{drop_prefix, put_bad_frame};
 use crate::step::{Step, StreamEnd, take_next};
 use crate::turns::Turns;
-use bw_wire::Framer;
+use bw_wire::{Framer, HeldBody};
 use std::alloc::{AllocError, Global};
 
 /// The most bytes of unsent replies.
@@ -112,6 +113,21 @@ impl Exchange {
         ensures len { length result.now ≤ most_waiting }
     {
         self.outgoing.as_slice()
+    }
+
+    /// The framer, with the bytes that were fed and not answered yet.
+    pub fn framer(&self) -> &Framer
+        ensures { result.now ≡ pending_of self.now }
+    {
+        &self.framer
+    }
+
+    /// Keeps the digest of a body that the framer holds, for its message.
+    pub fn keep_digest(&mut self, body: HeldBody, digest: [u8; 32])
+        requires { IsDigestOf (held_bytes (pending_of self.old).bytes body) digest }
+        ensures { self.new ≡ self.old }
+    {
+        self.framer.keep_digest(body, digest);
     }
 
     /// Feeds the next piece, of at most 524,960 bytes, to an exchange that wants to read.

@@ -197,7 +197,8 @@ impl<L: Link + Drop> EventLoop<L> {
         let _refused = self.connections.begin(alloc, place, link, now);
     }
 
-    /// One quantum of each connection, in the order of their places.
+    /// One quantum of each connection, in the order of their places. What they hold then is hashed
+    /// ahead over all of them, before the next round answers it.
     pub(crate) fn serve_each<T: Turns, O: Sink, E: Sink>(
         &mut self,
         alloc: Global,
@@ -216,6 +217,7 @@ impl<L: Link + Drop> EventLoop<L> {
         for place in 0..self.connections.places() {
             self.serve_place(alloc, place, server, buffer, round, out, faults);
         }
+        self.connections.hash_ahead();
     }
 
     /// One quantum of the connection at a place, which may end in it, or because it was silent too

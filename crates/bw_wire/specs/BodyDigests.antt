@@ -1,14 +1,30 @@
 -- Digests of bodies in a block of bytes.
 use Rattle.std.specs.Prelude.{◌≡◌, ℕ, ◌+◌, ◌≤◌, List, [], length, take, drop, slice_index_or, Option}
 use Rattle.std.specs.Prelude.{IfSome}
+use Rattle.std.specs.Borrow.{Bor}
 use Rattle.sha2.specs.Sha256.{sha256}
 use Rattle.bw_digest.specs.Lanes.{InEachLane}
+use Rattle.bw_digest.specs.Messages.{lent_at}
+use Rattle.bw_wire.specs.declared.body_digests.HeldBody.{HeldBody}
 use Rattle.bw_wire.specs.declared.body_digests.Span.{Span}
 use Rattle.bw_wire.specs.declared.body_digests.BodyDigests.{BodyDigests}
 
 -- the bytes of a body
 abbrev pub bytes_at : List ℕ → Span → List ℕ
 bytes_at block s = take s.len (drop s.at block)
+
+-- those of a body that is held, among the bytes that are not used up
+abbrev pub held_bytes : List ℕ → HeldBody → List ℕ
+held_bytes bytes body = take body.len (drop body.at bytes)
+
+-- this is the digest of these bytes
+abbrev pub IsDigestOf : List ℕ → List ℕ → Type 0
+IsDigestOf bytes digest = digest ≡ sha256 bytes
+
+-- the digest in each lane is that of the bytes that were lent there
+abbrev pub AreDigestsOf : List (Bor (List ℕ)) → List (List ℕ) → Type 0
+AreDigestsOf bodies digests =
+    InEachLane (λ j. IsDigestOf (lent_at bodies j) (slice_index_or digests j []))
 
 -- it lies within the block
 abbrev pub IsSpanIn : List ℕ → Span → Type 0

@@ -1,8 +1,8 @@
 -- What follows a length at the start of a stream's bytes.
-use Rattle.std.specs.Prelude.{◌≡◌, ℕ, ◌+◌, ◌≤◌, Some, None, List, length, take, drop}
+use Rattle.std.specs.Prelude.{◌≡◌, ℕ, ◌+◌, ◌≤◌, Bool, true, false, Option, Some, None, List, length, take, drop}
 use Rattle.bw_model.specs.Bytes.{u32_at, first_that_holds}
-use Rattle.bw_model.specs.Wire.{Length, Cut}
-use Rattle.bw_model.specs.Stream.{framing_faults}
+use Rattle.bw_model.specs.Wire.{Length, Cut, Reason}
+use Rattle.bw_model.specs.Stream.{framing_faults, longest_body}
 use Rattle.bw_wire.specs.declared.framing.Framing.{Framing}
 use Rattle.bw_wire.specs.declared.framing.Framing.TheVariants as framings
 
@@ -16,6 +16,15 @@ pub record HasPrefix (longest : ℕ) (bytes : List ℕ) (len : ℕ) : Type 0 whe
   pub len_is : len ≡ u32_at bytes 0
   pub short : len ≤ longest
   pub whole : 4 + len ≤ length bytes
+
+-- whether more bytes decide nothing of the first frame, by what is wrong with the bytes
+abbrev pub is_whole_by : Option Reason → Bool
+is_whole_by (Some Cut) = false
+is_whole_by _ = true
+
+-- whether the bytes begin with a whole frame, or a length that no frame has
+abbrev pub has_whole_frame : List ℕ → Bool
+has_whole_frame bytes = is_whole_by (first_that_holds (framing_faults longest_body bytes))
 
 -- what the bytes begin with, by their length field and the number of bytes that are there
 abbrev pub IsFraming : ℕ → List ℕ → Framing → Type 0

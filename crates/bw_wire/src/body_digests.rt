@@ -1,10 +1,11 @@
 //! Digests of bodies in a block of bytes, made in the lanes of vectors.
-ghost use Rattle.std.specs.Prelude.{◌≡◌, ◌≤◌, ℕ, List, length, take, drop, IfSome, nat_lt};
+ghost use Rattle.std.specs.Prelude.{◌≡◌, ◌≤◌, ◌<◌, ℕ, List, length, take, drop, IfSome, nat_lt};
 ghost use Rattle.std.specs.List.{list_any};
 ghost use Rattle.sha2.specs.Sha256.{sha256};
 ghost use Rattle.bw_digest.specs.Lanes.{InEachLane};
 ghost use Rattle.bw_digest.specs.Messages.{lent_at};
 ghost use Rattle.bw_wire.specs.BodyDigests.{bytes_at, span_at, IsSpanIn, AreDigestsIn, KeepsDigests};
+ghost use Rattle.bw_wire.specs.BodyDigests.{held_bytes, AreDigestsOf};
 
 use crate::frame_prefix::LONGEST_BODY;
 use crate::framing::{Framing, framing_of};
@@ -12,6 +13,62 @@ use bw_digest::{LANES, digests};
 
 /// Hashing in lanes takes as long as hashing so many of the longest body one after another.
 const LANES_TAKE: usize = 5;
+
+/// A body among the bytes that a framer holds, by its place among those that aren't used up.
+#[derive(Clone, Copy, Debug, PartialEq, Eq)]
+pub struct HeldBody {
+    /// How many bytes are before it.
+    pub at: usize,
+    /// How many bytes it has.
+    pub len: usize,
+}
+
+impl HeldBody {
+    /// The place after it, at most 2^64 - 1.
+    pub fn end(self) -> usize {
+        self.at.saturating_add(self.len)
+    }
+
+    /// Its bytes.
+    pub(crate) fn bytes_of(self, bytes: &[u8]) -> &[u8]
+        ensures { result.now ≡ held_bytes bytes.now self }
+    {
+        let rest = &bytes[self.at.min(bytes.len())..];
+        &rest[..self.len.min(rest.len())]
+    }
+}
+
+/// The body of the first whole frame from a place on.
+pub(crate) fn held_body(bytes: &[u8], from: usize) -> Option<HeldBody> {
+    let rest = bytes.get(from..)?;
+    let Framing::Body(len) = framing_of(rest, LONGEST_BODY) else {
+        return None;
+    };
+    Some(HeldBody {
+        at: from.saturating_add(4),
+        len,
+    })
+}
+
+/// The digests of up to eight bodies, if it is faster to compute them at once than one after
+/// another. If there are fewer bodies, the others are empty.
+pub fn digests_at_once(bodies: &[&[u8]; LANES]) -> Option<[[u8; 32]; LANES]>
+    ensures { IfSome result (λ digests. AreDigestsOf bodies.now digests) }
+{
+    if fills_lanes(&lengths_of(bodies)) {
+        return Some(digests(bodies));
+    }
+    None
+}
+
+/// How long each body is.
+fn lengths_of(bodies: &[&[u8]; LANES]) -> [usize; LANES] {
+    let mut lengths = [0; LANES];
+    for lane in 0..LANES {
+        lengths[lane] = bodies[lane].len();
+    }
+    lengths
+}
 
 /// The place of a body in a block of bytes; one of length 0 is none.
 #[derive(Clone, Copy, Debug)]
@@ -35,14 +92,33 @@ impl BodyDigests {
         ensures { IfSome result (λ d. AreDigestsIn block.now d) }
     {
         let spans = spans_of(block, start);
-        if !fills_lanes(&spans) {
-            return None;
+        let digests = digests_at_once(&bodies_at(block, &spans))?;
+        Some(BodyDigests { spans, digests })
+    }
+
+    /// With the digest of one more body, where a lane is free.
+    fn with(&self, span: Span, digest: [u8; 32]) -> BodyDigests
+        ensures { (block : List ℕ) → AreDigestsIn block self.now → digest ≡ sha256 (bytes_at block span) →
+            AreDigestsIn block result }
+    {
+        let mut all = *self;
+        if let Some(lane) = self.free_lane() {
+            all.spans[lane] = span;
+            all.digests[lane] = digest;
         }
-        let bodies = bodies_at(block, &spans);
-        Some(BodyDigests {
-            spans,
-            digests: digests(&bodies),
-        })
+        all
+    }
+
+    /// The first lane with the same body as that before all others, or one before it.
+    fn free_lane(&self) -> Option<usize>
+        ensures { IfSome result (λ lane. lane < 8) }
+    {
+        for lane in 1..LANES {
+            if self.spans[lane].at <= self.spans[0].at {
+                return Some(lane);
+            }
+        }
+        None
     }
 
     /// Whether one of these bodies begins after a place.
@@ -63,6 +139,29 @@ impl BodyDigests {
             }
         }
         None
+    }
+}
+
+/// These digests, if one of them is of a body after `start`, and that of one more body.
+pub(crate) fn with_digest(
+    digests: &Option<BodyDigests>,
+    start: usize,
+    at: usize,
+    len: usize,
+    digest: [u8; 32],
+) -> BodyDigests
+    ensures { (block : List ℕ) → KeepsDigests block digests.now →
+        digest ≡ sha256 (take len (drop at block)) → AreDigestsIn block result }
+{
+    let span = Span { at, len };
+    if let Some(known) = digests
+        && known.reaches(start)
+    {
+        return known.with(span, digest);
+    }
+    BodyDigests {
+        spans: [span; LANES],
+        digests: [digest; LANES],
     }
 }
 
@@ -94,13 +193,13 @@ fn spans_of(block: &[u8], start: usize) -> [Span; LANES]
     spans
 }
 
-/// Whether these bodies are hashed faster at once than one after another.
-fn fills_lanes(spans: &[Span; LANES]) -> bool {
+/// Whether bodies of these lengths are hashed faster at once than one after another.
+fn fills_lanes(lengths: &[usize; LANES]) -> bool {
     let mut total = 0usize;
     let mut longest = 0usize;
-    for span in spans {
-        total = total.saturating_add(span.len);
-        longest = longest.max(span.len);
+    for len in lengths {
+        total = total.saturating_add(*len);
+        longest = longest.max(*len);
     }
     total > longest.saturating_mul(LANES_TAKE)
 }

@@ -1,9 +1,12 @@
 //! A stream of frames that comes in pieces.
 ghost use Rattle.std.specs.Prelude.{◌≡◌, ◌+◌, ◌≤◌, length, IsOk, OnOk, OnErr};
+ghost use Rattle.bw_wire.specs.BodyDigests.{held_bytes, IsDigestOf};
+ghost use Rattle.bw_wire.specs.Framings.{has_whole_frame};
 
-use crate::body_digests::{BodyDigests, kept_digest};
+use crate::body_digests::{BodyDigests, HeldBody, held_body, kept_digest, with_digest};
 use crate::fault::WireFault;
-use crate::frame_prefix::{FramePrefix, frame_prefix_of};
+use crate::frame_prefix::{FramePrefix, LONGEST_BODY, frame_prefix_of};
+use crate::framing::{Framing, framing_of};
 use crate::intake::{Intake, Phase};
 use crate::message::{Ask, Frame, Message};
 use std::alloc::{AllocError, Global};
@@ -103,6 +106,53 @@ impl Framer {
             return;
         }
         self.digests = BodyDigests::of(self.intake.buffer.as_slice(), self.intake.start);
+    }
+
+    /// Whether a whole frame is held, or a length that no frame has.
+    pub fn has_frame(&self) -> bool
+        ensures { result ≡ has_whole_frame self.now.bytes }
+    {
+        match framing_of(self.intake.bytes(), LONGEST_BODY) {
+            Framing::Partial => false,
+            Framing::Bad => true,
+            Framing::Body(_len) => true,
+        }
+    }
+
+    /// The body of the first whole frame from a place on. Places count from the first byte that isn't used up.
+    ///
+    /// # Not specified
+    /// Which body it is, if any: a message's `digest` doesn't depend on it.
+    pub fn held_body(&self, from: usize) -> Option<HeldBody> {
+        held_body(self.intake.bytes(), from)
+    }
+
+    /// The bytes of a body.
+    pub fn body_at(&self, body: HeldBody) -> &[u8]
+        ensures { result.now ≡ held_bytes self.now.bytes body }
+    {
+        body.bytes_of(self.intake.bytes())
+    }
+
+    /// Whether the digest of this body is known.
+    ///
+    /// # Not specified
+    /// Whether it is: a message's `digest` doesn't depend on it.
+    pub fn knows_digest(&self, body: HeldBody) -> bool {
+        let at = self.intake.start.saturating_add(body.at);
+        kept_digest(&self.digests, at, body.len).is_some()
+    }
+
+    /// Keeps the digest of this body, which was computed elsewhere, for its message. Of more than
+    /// eight some are left out.
+    pub fn keep_digest(&mut self, body: HeldBody, digest: [u8; 32])
+        requires { IsDigestOf (held_bytes self.old.bytes body) digest }
+        ensures { self.new ≡ self.old }
+    {
+        let start = self.intake.start;
+        if let Some(at) = start.checked_add(body.at) {
+            self.digests = Some(with_digest(&self.digests, start, at, body.len, digest));
+        }
     }
 
     /// The first frame of the bytes that are left, which is used up; None if it isn't whole yet.

@@ -22,6 +22,8 @@ mod reply_framer;
 mod reply_prefix;
 mod request_text;
 
+pub use body_digests::{HeldBody, digests_at_once};
+pub use bw_digest::LANES;
 pub use decoder::{decode, decode_request};
 pub use encoder::{encode, encode_ask, kind, put_payload};
 pub use fault::WireFault;

@@ -21,8 +21,8 @@ const BYE: Visit = Visit(1, Comes::Peer(b"\x01\0\0\0\x09", &[Give::Bytes(5)], AL
 
 const FOUR_ENDS: &[Visit] = &[BROKEN_WRITE, BROKEN_READ, QUICK, BYE];
 
-/// In the order in which they end: the first sends five bytes in its second round, and fails in its
-/// third.
+/// In the order in which they end: the first sends five bytes in its third round, and fails in its
+/// fourth.
 const FOUR_LINES: &[u8] = b"exchange 0 Bye\nexchange 1 ReadFault\n\
     exchange 2 EndOfInput\nexchange 3 WriteFault\n";
 
@@ -86,5 +86,5 @@ fn a_failed_wait_ends_the_run(rt: HostRuntime) -> Result<(), Fail> {
 #[test]
 fn one_who_has_gone_ends_nothing(rt: HostRuntime) -> Result<(), Fail> {
     // the one place is offered once a round
-    ends_so(&rt, rt.alloc(), GONE_FIRST, 1, Exit::Done, 30)
+    ends_so(&rt, rt.alloc(), GONE_FIRST, 1, Exit::Done, 40)
 }

@@ -72,17 +72,17 @@ fn has_no_file(rt: &impl Abort, received: &Received) {
 
 #[test]
 fn what_follows_a_bad_frame_is_let_go(rt: HostRuntime) -> Result<(), Fail> {
-    // the frame, its reply, three pieces and a pause, the end
-    is_bad(&rt, rt.alloc(), IN_PIECES, 62, 700)
+    // the frame, the turn of its reply, that reply, three pieces and a pause, the end
+    is_bad(&rt, rt.alloc(), IN_PIECES, 62, 800)
 }
 
 #[test]
 fn who_sends_on_after_a_bad_frame_is_ended(rt: HostRuntime) -> Result<(), Fail> {
-    // shut after 200 milliseconds, ended more than 2,000 later, a byte in each of the rounds 3 to 23
-    is_bad(&rt, rt.alloc(), WITHOUT_END, 25, 2_300)
+    // shut after 300 milliseconds, ended more than 2,000 later, a byte in each of the rounds 4 to 24
+    is_bad(&rt, rt.alloc(), WITHOUT_END, 25, 2_400)
 }
 
 #[test]
 fn a_link_that_breaks_after_a_bad_frame_is_no_other_end(rt: HostRuntime) -> Result<(), Fail> {
-    is_bad(&rt, rt.alloc(), BROKEN, 10, 300)
+    is_bad(&rt, rt.alloc(), BROKEN, 10, 400)
 }

@@ -63,7 +63,7 @@ fn comes_to(rt: &impl Abort, alloc: Global, port: u16, folder: &str, wanted: &Wa
     );
 }
 
-/// Both are over in their second round, in which their replies are sent.
+/// Both are over in their third round, in which their replies are sent.
 const BOTH: Wanted = Wanted {
     exit: Exit::Done,
     out: b"listening 127.0.0.1:4000\nexchange 0 EndOfInput\nexchange 1 Bye\n",

@@ -15,7 +15,7 @@ const TWO_REQUESTS: &[u8] = b"\x12\0\0\0\x01\x02a1\0\0\0\0\x80\xbb\0\0\x01\0\x10
 const ONE_REQUEST: &[u8] = b"\x12\0\0\0\x01\x02c3\0\0\0\0\x80\xbb\0\0\x01\0\x10\0\0\0";
 
 /// The first sends a byte at a time, and takes its replies so: it is through in more than 60 rounds.
-/// The second, whose three bodies are of 18, 12 and 16 bytes, sends two at a time, in 32 rounds. The
+/// The second, whose three bodies are of 18, 12 and 16 bytes, sends two at a time, in 36 rounds. The
 /// third falls silent after its first frame, in the first round.
 const BESIDE_EACH_OTHER: &[Visit] = &[
     Visit(
@@ -29,7 +29,7 @@ const BESIDE_EACH_OTHER: &[Visit] = &[
     ),
 ];
 
-/// The third is ended in round 52; no frame takes more than 29 rounds.
+/// The third is ended in round 53; no frame takes more than 29 rounds.
 fn slowly() -> Plan {
     Plan::over(BESIDE_EACH_OTHER, 40, 1_000)
 }

@@ -30,9 +30,9 @@ fn the_next_is_let_in_where_a_place_is_free(rt: HostRuntime) -> Result<(), Fail>
     is_over(&rt, &received, Exit::Done, lines);
     is_reported(&rt, &received, 1, OTHERS);
     is_reported(&rt, &received, 2, VERDICTS);
-    // each is over in its second round, in which its replies are sent
-    is_let_in(&rt, &received, 1, (3, 0));
-    is_let_in(&rt, &received, 2, (5, 0));
+    // each is over in its third round, in which its replies are sent
+    is_let_in(&rt, &received, 1, (4, 0));
+    is_let_in(&rt, &received, 2, (7, 0));
     Ok(())
 }
 

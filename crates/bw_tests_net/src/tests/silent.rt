@@ -69,8 +69,8 @@ fn is_idle(
         &received.scripted_reactor.given_and_shut(0).0,
         &given,
     );
-    // its first frame was answered after 100 milliseconds
-    same(rt, "the time", &received.scripted_reactor.time(), &1_200);
+    // its first frame was answered after 200 milliseconds
+    same(rt, "the time", &received.scripted_reactor.time(), &1_300);
     Ok(())
 }
 
@@ -81,7 +81,7 @@ fn who_is_silent_in_a_frame_is_ended(rt: HostRuntime) -> Result<(), Fail> {
 
 #[test]
 fn who_sends_no_whole_frame_is_ended(rt: HostRuntime) -> Result<(), Fail> {
-    // a byte in each of the rounds 2 to 12
+    // a byte in each of the rounds 3 to 13
     is_idle(&rt, rt.alloc(), BESIDE_SLOW, FIRST, 33)
 }
 

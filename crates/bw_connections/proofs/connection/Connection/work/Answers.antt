@@ -48,17 +48,24 @@ returns-in_err-send_waiting g c =
 pub returns-in_err-receive_piece : goal.returns-in_err-receive_piece
 returns-in_err-receive_piece g c =
     let a = err_from_is_err_and c.from_residual-in_err-receive_piece.result c.from_residual-in_err-receive_piece.ensures.1 in
+    let h = c.answer_held.ensures in
     let old = c.args.self.now in
     let sent = c.send_waiting.new.self in
+    let held = c.answer_held.new.self in
+    let fed = c.receive_piece.new.self in
     let serving : old.phase ≡ phases.Serving = search rules in
     let first = c.in_ok-send_waiting.ensures in
     let broken = c.in_err-receive_piece.ensures in
-    rw (a.1, a.2) (breaks_off g.L.Link g.T.Turns.answers c.args.now c.in_err-receive_piece.field-0.0 old
-    c.receive_piece.new.self _ _ [] serving refl (omega arith)
-    (goes_after g.L.Link (Err c.in_err-receive_piece.field-0.0) old sent c.receive_piece.new.self [] [] first.goes
-    broken.goes) (peer_then g.L.Link old.link sent.link c.receive_piece.new.self.link first.peer broken.peer)
-    (leaves_on g.L.Link (waiting_in old.exchange) old.link sent.link c.receive_piece.new.self.link first.leaves
-    broken.leaves) (broken.stays.number ∙ first.stays.number) broken.served)
+    let on = answers_on g.L.Link g.T.Turns.answers c.args.now old sent held _ _ first.goes first.peer
+    first.stays.number h in
+    rw (a.1, a.2) (breaks_off g.L.Link g.T.Turns.answers c.args.now c.in_err-receive_piece.field-0.0 old fed _ _
+    h.answered serving h.by_server h.most
+    (goes_at_last g.L.Link (Err c.in_err-receive_piece.field-0.0) old held fed h.answered on.0 broken.goes)
+    (peer_then g.L.Link old.link held.link fed.link on.1 broken.peer)
+    (leaves_on g.L.Link (waiting_in old.exchange) old.link held.link fed.link
+    (leaves_on g.L.Link (waiting_in old.exchange) old.link sent.link held.link first.leaves
+    (leaves_same g.L.Link sent.link held.link h.link)) broken.leaves)
+    (broken.stays.number ∙ on.2) broken.served)
 
 pub returns : goal.returns
 returns g c =
@@ -66,39 +73,41 @@ returns g c =
     let s = c.settle.ensures in
     let old = c.args.self.now in
     let sent = c.send_waiting.new.self in
-    let fed = c.receive_piece.new.self in
     let held = c.answer_held.new.self in
+    let fed = c.receive_piece.new.self in
     let first = c.in_ok-send_waiting.ensures in
     let then_fed = c.in_ok-receive_piece.ensures in
-    let on = answers_on g.L.Link g.T.Turns.answers c.args.now old fed held _ _
-    (steps_on g.L.Link old sent fed [] [] first.goes then_fed.goes)
-    (peer_then g.L.Link old.link sent.link fed.link first.peer then_fed.peer)
-    (then_fed.stays.number ∙ first.stays.number) h in
+    let on = answers_on g.L.Link g.T.Turns.answers c.args.now old sent held _ _ first.goes first.peer
+    first.stays.number h in
     let serving : old.phase ≡ phases.Serving = search rules in
+    let phase = then_fed.stays.phase ∙ h.phase in
+    let since = then_fed.stays.since ∙ h.since in
     record {
       answered = h.answered;
       by_server = h.by_server;
       most = h.most;
-      goes = goes_at_last g.L.Link c.settle.result old held c.settle.new.self h.answered on.0 s.goes;
-      peer = peer_then g.L.Link old.link held.link c.settle.new.self.link on.1 s.peer;
-      leaves = leaves_on g.L.Link (waiting_in old.exchange) old.link held.link c.settle.new.self.link
-          (leaves_on g.L.Link (waiting_in old.exchange) old.link fed.link held.link
-          (leaves_on g.L.Link (waiting_in old.exchange) old.link sent.link fed.link first.leaves then_fed.leaves)
-          (leaves_same g.L.Link fed.link held.link h.link)) s.leaves;
-      number = number_left c.args.now c.settle.result held c.settle.new.self s.settles ∙ on.2;
-      since = quiet_as c.args.now c.settle.new.self.since c.settle.new.self.phase h.answered fed old c.settle.result
-          (then_fed.stays.phase ∙ first.stays.phase) (then_fed.stays.since ∙ first.stays.since)
-          (quiet_on c.args.now fed h.answered (then_fed.stays.phase ∙ (first.stays.phase ∙ serving)) held
-          c.settle.new.self c.settle.result h.phase h.since s.settles);
-      unended = open_left c.args.now c.settle.result held c.settle.new.self s.settles;
+      goes = goes_at_last g.L.Link c.settle.result old fed c.settle.new.self h.answered
+          (goes_at_last g.L.Link (Ok tt) old held fed h.answered on.0 then_fed.goes) s.goes;
+      peer = peer_then g.L.Link old.link fed.link c.settle.new.self.link
+          (peer_then g.L.Link old.link held.link fed.link on.1 then_fed.peer) s.peer;
+      leaves = leaves_on g.L.Link (waiting_in old.exchange) old.link fed.link c.settle.new.self.link
+          (leaves_on g.L.Link (waiting_in old.exchange) old.link held.link fed.link
+          (leaves_on g.L.Link (waiting_in old.exchange) old.link sent.link held.link first.leaves
+          (leaves_same g.L.Link sent.link held.link h.link)) then_fed.leaves) s.leaves;
+      number = number_left c.args.now c.settle.result fed c.settle.new.self s.settles ∙ (then_fed.stays.number ∙ on.2);
+      since = quiet_as c.args.now c.settle.new.self.since c.settle.new.self.phase h.answered sent old c.settle.result
+          first.stays.phase first.stays.since
+          (quiet_on c.args.now sent h.answered (first.stays.phase ∙ serving) fed
+          c.settle.new.self c.settle.result phase since s.settles);
+      unended = open_left c.args.now c.settle.result fed c.settle.new.self s.settles;
       moved = λ at. moved_on g.L.Link g.T.Turns.answers c.args.now c.args.server.now c.answer_held.new.server
-          c.settle.result old sent fed held c.settle.new.self first.sends then_fed.reads h s.settles s.reported;
+          c.settle.result old sent held fed c.settle.new.self first.sends h then_fed.reads s.settles s.reported;
       lets_go = λ fault at. absurd (not_served old fault at serving);
       learns = learns_on g.L.Link g.T.Turns.answers c.args.now c.args.server.now c.answer_held.new.server
-          c.settle.result old sent fed held c.settle.new.self first.sends then_fed.reads h s.settles s.reported;
+          c.settle.result old sent held fed c.settle.new.self first.sends h then_fed.reads s.settles s.reported;
       finished = λ was. s.finished;
       no_silence = served_no_silence c.settle.result
-          (settled_served c.args.now c.settle.result held c.settle.new.self s.settles);
-      served = λ at. settled_served c.args.now c.settle.result held c.settle.new.self s.settles;
+          (settled_served c.args.now c.settle.result fed c.settle.new.self s.settles);
+      served = λ at. settled_served c.args.now c.settle.result fed c.settle.new.self s.settles;
       heard = λ fault at. absurd (not_served old fault at serving);
     }

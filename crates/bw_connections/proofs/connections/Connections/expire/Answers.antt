@@ -5,6 +5,9 @@ use Rattle.bw_connections.proofs.Going.{expires, woken}
 use Rattle.bw_connections.proofs.Standing.{adds_closed, adds_none, adds_on, keeps_free, not_some, sets_again, some_is}
 use Rattle.bw_connections.proofs.connections.Connections.expire.Goals as goal
 
+pub returns-then-is_none-clause-adds : goal.returns-then-is_none-clause-adds
+returns-then-is_none-clause-adds g c = adds_none g.L.Link c.args.self.now _ (λ over trace k. k)
+
 pub returns-in_default-clause-adds : goal.returns-in_default-clause-adds
 returns-in_default-clause-adds g c =
     let t = c.in_default.ensures in

@@ -1,4 +1,5 @@
-use Rattle.std.proofs.Common.{ap, arith, refl, subst, sym, ◌∙◌, List, Some, None, [], ◌++◌, ◌≡◌}
+use Rattle.bw_connections.proofs.Resting.{rests_through}
+use Rattle.std.proofs.Common.{rules, ap, arith, refl, subst, sym, ◌∙◌, List, Some, None, [], ◌++◌, ◌≡◌}
 use Rattle.bw_exchange.specs.AnsweredFrames.{Answered}
 use Rattle.bw_connections.specs.declared.connection.Phase.TheVariants as phases
 use Rattle.bw_exchange.specs.Parts.{waiting_in}
@@ -7,6 +8,10 @@ use Rattle.bw_connections.proofs.Going.{finished_at, leaves_at, learns_at, let_g
 use Rattle.bw_connections.proofs.Standing.{adds_closed, adds_none, adds_on, at_is, closes_none, keeps_free, not_at}
 use Rattle.bw_connections.proofs.Standing.{sets_again}
 use Rattle.bw_connections.proofs.connections.Connections.work.Goals as goal
+
+pub returns-then-rests : goal.returns-then-rests
+returns-then-rests g c = rests_through g.L.Link g.T.Turns.answers c.args.place c.args.now c.args.self.now
+    c.args.server.now (sym c.rests.ensures ∙ (search rules))
 
 pub returns-in_default : goal.returns-in_default
 returns-in_default g c =

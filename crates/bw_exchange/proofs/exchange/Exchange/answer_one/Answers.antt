@@ -11,7 +11,7 @@ use Rattle.bw_exchange.proofs.Staying.{stays}
 use Rattle.bw_exchange.proofs.Doing.{done_answer, done_quiet}
 use Rattle.bw_exchange.proofs.Holding.{held_on, used_up, kept_little}
 use Rattle.bw_exchange.proofs.Lawful.{final_end}
-use Rattle.bw_exchange.proofs.Turning.{no_end}
+use Rattle.bw_exchange.proofs.Turning.{kept_waiting, no_end}
 use Rattle.bw_exchange.proofs.Going.{none_so_far, done_end, answers_one, no_turns}
 use Rattle.bw_exchange.proofs.exchange.Exchange.answer_one.Goals as goal
 
@@ -73,6 +73,7 @@ returns-in-WantsRead-clause-answers g c =
         stops = λ h. inl (inl refl);
         final = λ none fed before gone d. no_end s.end none;
         uses_up = used_up s.framer q [] a.next quiet;
+        grows = kept_waiting s.outgoing.items [] w (a.comes.2 ∙ sym (append-nil s.outgoing.items));
       },
       refl,
     )
@@ -97,6 +98,7 @@ returns-in-Answered-clause-answers g c =
         stops = λ h. absurd (omega (arith, h));
         final = λ none fed before gone d. no_end s.end none;
         uses_up = used_up s.framer q (t.frame ∷ []) a.next t.goes_on;
+        grows = kept_waiting s.outgoing.items _ w t.waits;
       },
       search rules,
     )
@@ -119,6 +121,7 @@ returns-in-Ended-clause-answers g c =
             final_end fed before gone s.framer s.outgoing.items (end_so_far s.end) c.in-Ended.end d a.comes.0;
         uses_up = used_up s.framer q [] a.next
             (no_turns c.in-Ended.end (next_of message_codec s.framer).0 a.comes.0);
+        grows = kept_waiting s.outgoing.items _ w a.comes.2;
       },
       refl,
     )
