@@ -6,7 +6,7 @@ ghost use Rattle.bw_stream.specs.Moves.{failures_after};
 ghost use Rattle.bw_exchange.specs.MeteredServers.{metered_server};
 
 use crate::end_counts::EndCounts;
-use crate::guarded::{Gate, work_guarded};
+use crate::guarded::{Gate, Quantum, work_guarded};
 use crate::line::print_end;
 use crate::observing::{RoundObserver, RoundReport};
 use crate::peer_slot::{PeerSlot, address_at, empty_peer_slots, put_at, report_at, swap_at};
@@ -335,18 +335,20 @@ impl<L: Link + Drop> EventLoop<L> {
         ensures { WorksCounted L.Link (guarded_answers T.answers round.now.allow.now) place round.now.time result
             self.old self.new (metered_server server.old) (metered_server server.new) }
     {
-        let gate = Gate {
-            allow: round.allow,
-            peer: address_at(&self.peer_slots, place),
+        let quantum = Quantum {
+            place,
+            time: round.time,
+            gate: Gate {
+                allow: round.allow,
+                peer: address_at(&self.peer_slots, place),
+            },
         };
         swap_at(&mut self.peer_slots, place, server);
         let closed = work_guarded(
             &mut self.connections,
-            place,
-            &gate,
+            &quantum,
             server,
             buffer,
-            round.time,
             &mut self.turned_away,
         );
         swap_at(&mut self.peer_slots, place, server);

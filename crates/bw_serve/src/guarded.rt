@@ -18,7 +18,7 @@ use arrayvec::ArrayVec;
 use bw_connections::{Closed, Connections};
 use bw_exchange::{Metered, NotKept, Turns};
 use bw_operators::AllowList;
-use bw_ports::Link;
+use bw_ports::{Duplex, Link};
 use bw_stream::{Sink, Source};
 use bw_wire::{Ask, Message, Notice, Reply};
 use std::alloc::Global;
@@ -155,30 +155,39 @@ impl<T: Turns> Turns for GuardedExchange<'_, T> {
     }
 }
 
-/// One quantum of the connection at a place, whose frames come from the gate's peer; those that are
-/// turned away are counted.
+/// Which connection has its quantum, when, and whose frames come over it.
+#[derive(Clone, Copy)]
+pub(crate) struct Quantum<'a> {
+    /// The connection's place.
+    pub(crate) place: usize,
+    /// The time, in milliseconds.
+    pub(crate) time: u64,
+    pub(crate) gate: Gate<'a>,
+}
+
+/// One quantum of a connection, whose frames come from the gate's peer; those that are turned away
+/// are counted.
 pub(crate) fn work_guarded<L: Link + Drop, T: Turns>(
     connections: &mut Connections<L>,
-    place: usize,
-    gate: &Gate<'_>,
+    quantum: &Quantum<'_>,
     server: &mut Metered<T>,
     buffer: &mut [u8],
-    now: u64,
     turned_away: &mut u64,
 ) -> Option<Closed<L>>
-    requires place { place < connection_count connections.old }
+    requires place { quantum.now.place < connection_count connections.old }
     requires buffer { length buffer.old ≤ longest_message_piece }
-    ensures { (works : WorksAt L.Link (AnswersCounted (Guarded T.answers gate.now.allow.now gate.now.peer))
-        place now result connections.old connections.new server.old server.new)
-        × (turned_away.new ≡ fold (turning_away (is_kept_out gate.now.allow.now gate.now.peer))
-        turned_away.old (answered_frames works.answered)) }
+    ensures { (works : WorksAt L.Link (AnswersCounted (Guarded T.answers quantum.now.gate.allow.now
+        quantum.now.gate.peer)) quantum.now.place quantum.now.time result connections.old connections.new
+        server.old server.new)
+        × (turned_away.new ≡ fold (turning_away (is_kept_out quantum.now.gate.allow.now
+        quantum.now.gate.peer)) turned_away.old (answered_frames works.answered)) }
 {
     let mut guarded = GuardedQuantum {
         metered: server,
-        gate: *gate,
+        gate: quantum.gate,
         turned_away: *turned_away,
     };
-    let closed = connections.work(place, &mut guarded, buffer, now);
+    let closed = connections.work(quantum.place, &mut guarded, buffer, quantum.time);
     *turned_away = guarded.turned_away;
     closed
 }
@@ -188,19 +197,25 @@ pub(crate) fn serve_guarded<R: Source, W: Sink, T: Turns, O: Sink>(
     alloc: Global,
     gate: &Gate<'_>,
     server: &mut Metered<T>,
-    reader: &mut R,
-    writer: &mut W,
+    link: &mut Duplex<R, W>,
     index: u64,
     out: &mut O,
 ) -> Ended
     ensures { ServesTo
         (AnswersCounted (GuardedOverCommits T.answers T.committed gate.now.allow.now gate.now.peer))
         (metered_commits T.commits) R.Source W.Sink O.Sink index result.end result.exit server.old
-        server.new reader.old reader.new writer.old writer.new out.old out.new }
+        server.new link.old.reader link.new.reader link.old.writer link.new.writer out.old out.new }
 {
     let mut guarded = GuardedExchange {
         metered: server,
         gate: *gate,
     };
-    serve_link(alloc, &mut guarded, reader, writer, index, out)
+    serve_link(
+        alloc,
+        &mut guarded,
+        &mut link.reader,
+        &mut link.writer,
+        index,
+        out,
+    )
 }

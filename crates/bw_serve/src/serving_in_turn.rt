@@ -100,15 +100,7 @@ fn serve_peer<R: Source + Drop, W: Sink + Drop, T: Turns, O: Sink, E: Sink>(
         allow,
         peer: address,
     };
-    let ended = serve_guarded(
-        alloc,
-        &gate,
-        server,
-        &mut link.reader,
-        &mut link.writer,
-        index,
-        out,
-    );
+    let ended = serve_guarded(alloc, &gate, server, &mut link, index, out);
     report_link(
         alloc,
         log,
