@@ -4,7 +4,7 @@ ghost use Rattle.bw_serve.specs.Hostings.{ServesInTurn};
 
 use crate::opening::{OpenedServer, print_opening};
 use crate::refusing::{report_end, report_unbound};
-use crate::serving_in_turn::serve_run;
+use crate::serving_in_turn::{TermsInTurn, serve_run};
 use bw_console::Exit;
 use bw_exchange::{Metered, Turns};
 use bw_operators::AllowList;
@@ -73,15 +73,12 @@ pub fn serve_in_turn<N: Network, T: Turns + Drop, O: Sink, E: Sink>(
         return exit;
     }
     let mut server = Metered::new(server);
-    let exit = serve_run(
+    let terms = TermsInTurn {
         alloc,
-        &mut server,
-        &mut peers,
         exchanges,
         allow,
         log,
-        out,
-        faults,
-    );
+    };
+    let exit = serve_run(&terms, &mut server, &mut peers, out, faults);
     report_end(exit, faults)
 }

@@ -44,4 +44,4 @@ pub use peer_slot::PeerSlot;
 pub use refusing::{report_end, report_refusal, report_unbound};
 pub use reporting::report_link;
 pub use serving::{Bounds, run_event_loop, run_observed};
-pub use serving_in_turn::serve_run;
+pub use serving_in_turn::{TermsInTurn, serve_run};

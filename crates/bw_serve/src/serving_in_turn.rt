@@ -13,8 +13,21 @@ use bw_console::Exit;
 use bw_exchange::{ExchangeEnd, Metered, NotKept, Turns, end_name};
 use bw_operators::AllowList;
 use bw_ports::{AcceptFault, Peer, Peers};
-use bw_stream::{Sink, Source};
+use bw_stream::Sink;
 use std::alloc::Global;
+
+/// What a run of exchanges, one after another, is given.
+#[derive(Clone, Copy)]
+pub struct TermsInTurn<'a> {
+    /// Where its memory comes from.
+    pub alloc: Global,
+    /// How many exchanges are served.
+    pub exchanges: u64,
+    /// Which names may come from which addresses.
+    pub allow: &'a AllowList,
+    /// Whether each link is a line on `faults` too.
+    pub log: bool,
+}
 
 /// Serves a number of exchanges, one after another, each over its own link, and prints a line that
 /// says how each ended.
@@ -33,21 +46,19 @@ use std::alloc::Global;
 /// - When an `accept` fails.
 /// - With `log`, when the line of a link is missing: for lack of memory, or for no cause.
 pub fn serve_run<P: Peers, T: Turns, O: Sink, E: Sink>(
-    alloc: Global,
+    terms: &TermsInTurn<'_>,
     server: &mut Metered<T>,
     peers: &mut P,
-    exchanges: u64,
-    allow: &AllowList,
-    log: bool,
     out: &mut O,
     faults: &mut E,
 ) -> Exit
-    ensures { ServesRun (GuardedOverCommits T.answers T.committed allow.now) T.commits P.Peers
-        P.Reader.Source P.Writer.Sink O.Sink E.Sink log exchanges result (metered_server server.old)
-        (metered_server server.new) peers.old peers.new out.old out.new faults.old faults.new }
+    ensures { ServesRun (GuardedOverCommits T.answers T.committed terms.now.allow.now) T.commits P.Peers
+        P.Reader.Source P.Writer.Sink O.Sink E.Sink terms.now.log terms.now.exchanges result
+        (metered_server server.old) (metered_server server.new) peers.old peers.new out.old out.new
+        faults.old faults.new }
 {
-    for index in 0..exchanges {
-        if let Some(exit) = serve_next(alloc, server, peers, index, allow, log, out, faults) {
+    for index in 0..terms.exchanges {
+        if let Some(exit) = serve_next(terms, server, peers, index, out, faults) {
             return exit;
         }
     }
@@ -56,54 +67,51 @@ pub fn serve_run<P: Peers, T: Turns, O: Sink, E: Sink>(
 
 /// Serves the exchange of the next peer. Returns how the run ends, if it ends after it.
 fn serve_next<P: Peers, T: Turns, O: Sink, E: Sink>(
-    alloc: Global,
+    terms: &TermsInTurn<'_>,
     server: &mut Metered<T>,
     peers: &mut P,
     index: u64,
-    allow: &AllowList,
-    log: bool,
     out: &mut O,
     faults: &mut E,
 ) -> Option<Exit>
     ensures { (outcome : ServedOutcome) × (result ≡ exit_now outcome)
-        × ServesNext (GuardedOverCommits T.answers T.committed allow.now) T.commits P.Peers
-        P.Reader.Source P.Writer.Sink O.Sink E.Sink log index outcome (metered_server server.old)
-        (metered_server server.new) peers.old peers.new out.old out.new faults.old faults.new }
+        × ServesNext (GuardedOverCommits T.answers T.committed terms.now.allow.now) T.commits P.Peers
+        P.Reader.Source P.Writer.Sink O.Sink E.Sink terms.now.log index outcome
+        (metered_server server.old) (metered_server server.new) peers.old peers.new out.old out.new
+        faults.old faults.new }
 {
     let peer = match peers.accept() {
         Ok(peer) => peer,
         Err(AcceptFault::Gone) => return None,
         Err(AcceptFault::Closed) => return Some(Exit::Device),
     };
-    let ended = serve_peer(alloc, server, peer, index, allow, log, out, faults);
+    let ended = serve_peer::<P, T, O, E>(terms, server, peer, index, out, faults);
     end_after(ended)
 }
 
 /// Serves the exchange of a peer, and logs it if a log is asked for.
-fn serve_peer<R: Source + Drop, W: Sink + Drop, T: Turns, O: Sink, E: Sink>(
-    alloc: Global,
+fn serve_peer<P: Peers, T: Turns, O: Sink, E: Sink>(
+    terms: &TermsInTurn<'_>,
     server: &mut Metered<T>,
-    peer: Peer<R, W>,
+    peer: Peer<P::Reader, P::Writer>,
     index: u64,
-    allow: &AllowList,
-    log: bool,
     out: &mut O,
     faults: &mut E,
 ) -> Ended
-    ensures { ServesPeer (GuardedOverCommits T.answers T.committed allow.now) T.commits R.Source W.Sink
-        O.Sink E.Sink log index result.end result.exit peer (metered_server server.old)
-        (metered_server server.new) out.old out.new faults.old faults.new }
+    ensures { ServesPeer (GuardedOverCommits T.answers T.committed terms.now.allow.now) T.commits
+        P.Reader.Source P.Writer.Sink O.Sink E.Sink terms.now.log index result.end result.exit peer
+        (metered_server server.old) (metered_server server.new) out.old out.new faults.old faults.new }
 {
     let Peer { address, mut link } = peer;
     server.start();
     let gate = Gate {
-        allow,
+        allow: terms.allow,
         peer: address,
     };
-    let ended = serve_guarded(alloc, &gate, server, &mut link, index, out);
+    let ended = serve_guarded(terms.alloc, &gate, server, &mut link, index, out);
     report_link(
-        alloc,
-        log,
+        terms.alloc,
+        terms.log,
         address,
         end_name(ended.end),
         server.link_stats(),
