@@ -1,7 +1,6 @@
 //! An event loop: many connections, as they come and end.
-ghost use Rattle.std.specs.Prelude.{◌≡◌, ◌+◌, ◌≤◌, ◌<◌, ℕ, List, [], ◌∷◌, length, vec_len, IfOk};
+ghost use Rattle.std.specs.Prelude.{◌≡◌, ◌+◌, ◌≤◌, ◌<◌, ℕ, List, [], ◌∷◌, vec_len, IfOk};
 ghost use Rattle.std.specs.Prelude.{OnOk};
-ghost use Rattle.bw_wire.specs.Held.{longest_message_piece};
 ghost use Rattle.bw_stream.specs.Moves.{failures_after};
 ghost use Rattle.bw_exchange.specs.MeteredServers.{metered_server};
 
@@ -11,7 +10,7 @@ use crate::line::print_end;
 use crate::observing::{RoundObserver, RoundReport};
 use crate::peer_slot::{PeerSlot, address_at, empty_peer_slots, put_at, report_at, swap_at};
 use bw_connections::{Closed, Connections};
-use bw_exchange::{Metered, NotKept, Turns};
+use bw_exchange::{MESSAGE_PIECE, Metered, NotKept, Turns};
 use bw_operators::AllowList;
 use bw_ports::{Accepted, Link, Reactor, TryAcceptFault};
 use bw_stream::Sink;
@@ -37,9 +36,12 @@ pub(crate) struct Round<'a> {
 /// Many connections, the peer at each place, and how many have ended.
 #[derive(Drop)]
 pub(crate) struct EventLoop<L> {
+    alloc: Global,
     connections: Connections<L>,
     /// One for each place.
     peer_slots: Vec<PeerSlot>,
+    /// Each quantum reads into it.
+    buffer: Vec<u8>,
     /// Stays at 2^64 - 1.
     ended: u64,
     ended_by: EndCounts,
@@ -64,7 +66,7 @@ impl<L: Link + Drop> EventLoop<L> {
     ghost use Rattle.bw_serve.specs.PeerSlots.{LogsAt};
     ghost use Rattle.bw_ports.specs.declared.reactor.Ready.{Ready};
 
-    /// Creates `places` free places.
+    /// Creates `places` free places, and the buffer of their quanta.
     ///
     /// # Errors
     /// `AllocError` if memory was refused.
@@ -72,8 +74,10 @@ impl<L: Link + Drop> EventLoop<L> {
         ensures { IfOk result (IsNew L.Link places) }
     {
         Ok(EventLoop {
+            alloc,
             connections: Connections::new(alloc, places)?,
             peer_slots: empty_peer_slots(alloc, places)?,
+            buffer: Vec::from_elem(alloc, 0u8, MESSAGE_PIECE)?,
             ended: 0,
             ended_by: EndCounts::new(),
             turned_away: 0,
@@ -141,7 +145,6 @@ impl<L: Link + Drop> EventLoop<L> {
     /// `Shut` if no more are accepted.
     pub(crate) fn welcome<B: Reactor<Link = L>>(
         &mut self,
-        alloc: Global,
         reactor: &mut B,
         exchanges: u64,
         now: u64,
@@ -169,7 +172,7 @@ impl<L: Link + Drop> EventLoop<L> {
                 return Ok(());
             };
             match reactor.accept(place) {
-                Ok(accepted) => self.peer_slot(alloc, place, accepted, now),
+                Ok(accepted) => self.peer_slot(place, accepted, now),
                 Err(TryAcceptFault::Nobody) => return Ok(()),
                 Err(TryAcceptFault::Gone) => {}
                 Err(TryAcceptFault::Closed) => return Err(Shut),
@@ -180,7 +183,7 @@ impl<L: Link + Drop> EventLoop<L> {
 
     /// Puts an accepted peer at a free place. If memory is refused, its link is closed and counted;
     /// the peer may connect again.
-    fn peer_slot(&mut self, alloc: Global, place: usize, accepted: Accepted<L>, now: u64)
+    fn peer_slot(&mut self, place: usize, accepted: Accepted<L>, now: u64)
         requires free { IsFree self.old.connections place }
         requires place { place < vec_len self.old.peer_slots }
         requires given { L.given accepted.link [] }
@@ -194,28 +197,25 @@ impl<L: Link + Drop> EventLoop<L> {
         let Accepted { address, link } = accepted;
         // nothing is counted yet of the new peer at a place
         put_at(&mut self.peer_slots, place, PeerSlot::new(address));
-        let _refused = self.connections.begin(alloc, place, link, now);
+        let _refused = self.connections.begin(self.alloc, place, link, now);
     }
 
     /// One quantum of each connection, in the order of their places. What they hold then is hashed
     /// ahead over all of them, before the next round answers it.
     pub(crate) fn serve_each<T: Turns, O: Sink, E: Sink>(
         &mut self,
-        alloc: Global,
         server: &mut Metered<T>,
-        buffer: &mut [u8],
         round: &Round<'_>,
         out: &mut O,
         faults: &mut E,
     )
-        requires buffer { length buffer.old ≤ longest_message_piece }
         requires peer_slots { HasPeerSlots self.old }
         ensures in_turn { InTurn L.Link (guarded_answers T.answers round.now.allow.now) O.Sink E.Sink round.now.log
             round.now.time round.now.idle (connection_count self.old.connections) self.old self.new
             (metered_server server.old) (metered_server server.new) out.old out.new faults.old faults.new }
     {
         for place in 0..self.connections.places() {
-            self.serve_place(alloc, place, server, buffer, round, out, faults);
+            self.serve_place(place, server, round, out, faults);
         }
         self.connections.hash_ahead();
     }
@@ -224,29 +224,26 @@ impl<L: Link + Drop> EventLoop<L> {
     /// long.
     fn serve_place<T: Turns, O: Sink, E: Sink>(
         &mut self,
-        alloc: Global,
         place: usize,
         server: &mut Metered<T>,
-        buffer: &mut [u8],
         round: &Round<'_>,
         out: &mut O,
         faults: &mut E,
     )
         requires place { place < connection_count self.old.connections }
         requires peer_slots { HasPeerSlots self.old }
-        requires buffer { length buffer.old ≤ longest_message_piece }
         ensures { ServesPlace L.Link (guarded_answers T.answers round.now.allow.now) O.Sink E.Sink round.now.log
             round.now.time round.now.idle place self.old self.new (metered_server server.old)
             (metered_server server.new) out.old out.new faults.old faults.new }
     {
-        if let Some(closed) = self.work(place, server, buffer, round) {
-            self.end(alloc, place, closed, round.log, out, faults);
+        if let Some(closed) = self.work(place, server, round) {
+            self.end(place, closed, round.log, out, faults);
             return;
         }
         let Some(closed) = self.connections.expire(place, round.time, round.idle) else {
             return;
         };
-        self.end(alloc, place, closed, round.log, out, faults);
+        self.end(place, closed, round.log, out, faults);
     }
 
     /// Has the server commit what it answered in the round, before any of it leaves. If a write
@@ -256,7 +253,6 @@ impl<L: Link + Drop> EventLoop<L> {
     /// `NotKept` as the server says.
     pub(crate) fn commit<T: Turns, O: Sink, E: Sink>(
         &mut self,
-        alloc: Global,
         server: &mut Metered<T>,
         log: bool,
         out: &mut O,
@@ -276,7 +272,7 @@ impl<L: Link + Drop> EventLoop<L> {
         match server.commit_server() {
             Ok(()) => Ok(()),
             Err(NotKept::WriteFault) => {
-                self.withhold_each(alloc, log, out, faults);
+                self.withhold_each(log, out, faults);
                 Err(NotKept::WriteFault)
             }
             Err(NotKept::SyncFault) => Err(NotKept::SyncFault),
@@ -286,7 +282,6 @@ impl<L: Link + Drop> EventLoop<L> {
     /// Ends each connection over which replies wait, in the order of their places.
     fn withhold_each<O: Sink, E: Sink>(
         &mut self,
-        alloc: Global,
         log: bool,
         out: &mut O,
         faults: &mut E,
@@ -296,14 +291,13 @@ impl<L: Link + Drop> EventLoop<L> {
             self.old self.new out.old out.new faults.old faults.new }
     {
         for place in 0..self.connections.places() {
-            self.withhold_place(alloc, place, log, out, faults);
+            self.withhold_place(place, log, out, faults);
         }
     }
 
     /// Ends the connection at a place if replies wait there.
     fn withhold_place<O: Sink, E: Sink>(
         &mut self,
-        alloc: Global,
         place: usize,
         log: bool,
         out: &mut O,
@@ -317,7 +311,7 @@ impl<L: Link + Drop> EventLoop<L> {
         let Some(closed) = self.connections.withhold(place) else {
             return;
         };
-        self.end(alloc, place, closed, log, out, faults);
+        self.end(place, closed, log, out, faults);
     }
 
     /// One quantum of the connection at a place, whose messages are guarded by the list as those of
@@ -326,12 +320,10 @@ impl<L: Link + Drop> EventLoop<L> {
         &mut self,
         place: usize,
         server: &mut Metered<T>,
-        buffer: &mut [u8],
         round: &Round<'_>,
     ) -> Option<Closed<L>>
         requires place { place < connection_count self.old.connections }
         requires peer_slots { HasPeerSlots self.old }
-        requires buffer { length buffer.old ≤ longest_message_piece }
         ensures { WorksCounted L.Link (guarded_answers T.answers round.now.allow.now) place round.now.time result
             self.old self.new (metered_server server.old) (metered_server server.new) }
     {
@@ -344,11 +336,14 @@ impl<L: Link + Drop> EventLoop<L> {
             },
         };
         swap_at(&mut self.peer_slots, place, server);
+        let buffer = self.buffer.as_mut_slice();
+        // a connection takes no longer pieces
+        let room = buffer.len().min(MESSAGE_PIECE);
         let closed = work_guarded(
             &mut self.connections,
             &quantum,
             server,
-            buffer,
+            &mut buffer[..room],
             &mut self.turned_away,
         );
         swap_at(&mut self.peer_slots, place, server);
@@ -359,7 +354,6 @@ impl<L: Link + Drop> EventLoop<L> {
     /// is asked for. Its link is closed.
     fn end<O: Sink, E: Sink>(
         &mut self,
-        alloc: Global,
         place: usize,
         closed: Closed<L>,
         log: bool,
@@ -377,6 +371,13 @@ impl<L: Link + Drop> EventLoop<L> {
         print_end(self.ended, closed.end, out);
         self.ended = self.ended.saturating_add(1);
         self.ended_by.count(closed.end);
-        report_at(alloc, &self.peer_slots, place, closed.end, log, faults);
+        report_at(
+            self.alloc,
+            &self.peer_slots,
+            place,
+            closed.end,
+            log,
+            faults,
+        );
     }
 }

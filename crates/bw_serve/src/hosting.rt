@@ -4,7 +4,7 @@ ghost use Rattle.bw_serve.specs.Hostings.{ServesAtOnce};
 
 use crate::opening::{OpenedServer, print_opening};
 use crate::refusing::{report_end, report_unbound};
-use crate::serving::{Bounds, run_event_loop};
+use crate::serving::{Bounds, Terms, run_event_loop};
 use bw_console::Exit;
 use bw_exchange::{Metered, Turns};
 use bw_operators::AllowList;
@@ -71,15 +71,12 @@ pub fn serve_at_once<N: ListenerSetup, T: Turns + Drop, O: Sink, E: Sink>(
         return exit;
     }
     let mut server = Metered::new(server);
-    let exit = run_event_loop(
+    let terms = Terms {
         alloc,
-        &mut server,
-        &mut reactor,
-        &bounds,
+        bounds,
         allow,
         log,
-        out,
-        faults,
-    );
+    };
+    let exit = run_event_loop(&terms, &mut server, &mut reactor, out, faults);
     report_end(exit, faults)
 }

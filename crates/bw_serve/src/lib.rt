@@ -43,5 +43,5 @@ pub use opening::{OpenedServer, Opens, open_new, print_opening};
 pub use peer_slot::PeerSlot;
 pub use refusing::{report_end, report_refusal, report_unbound};
 pub use reporting::report_link;
-pub use serving::{Bounds, run_event_loop, run_observed};
+pub use serving::{Bounds, Terms, run_event_loop, run_observed};
 pub use serving_in_turn::{TermsInTurn, serve_run};

@@ -1,7 +1,6 @@
 //! A run of many exchanges at once.
-ghost use Rattle.std.specs.Prelude.{◌≡◌, ◌≤◌, IfOk, OnOk, OnErr, vec_len};
+ghost use Rattle.std.specs.Prelude.{◌≡◌, ◌≤◌, IfOk, OnOk, OnErr};
 ghost use Rattle.bw_stream.specs.Moves.{failures_after, one_more};
-ghost use Rattle.bw_wire.specs.Held.{longest_message_piece};
 ghost use Rattle.bw_connections.specs.Places.{begun_of};
 ghost use Rattle.bw_serve.specs.EventLoops.{HasPeerSlots};
 ghost use Rattle.bw_serve.specs.Observations.{ObservesRun};
@@ -13,7 +12,7 @@ ghost use Rattle.bw_exchange.specs.MeteredServers.{metered_server};
 use crate::event_loop::{EventLoop, Round, Shut};
 use crate::observing::{NoRoundObserver, RoundObserver};
 use bw_console::Exit;
-use bw_exchange::{MESSAGE_PIECE, Metered, NotKept, Turns};
+use bw_exchange::{Metered, NotKept, Turns};
 use bw_operators::AllowList;
 use bw_ports::Reactor;
 use bw_stream::Sink;
@@ -32,6 +31,19 @@ pub struct Bounds {
     pub exchanges: u64,
     /// A connection of which no frame was answered for longer than this, in milliseconds, is ended.
     pub idle: u64,
+}
+
+/// What a run of many exchanges at once is given.
+#[derive(Clone, Copy)]
+pub struct Terms<'a> {
+    /// Where its memory comes from.
+    pub alloc: Global,
+    /// How many exchanges are served, how many at once, and how long a connection may be silent.
+    pub bounds: Bounds,
+    /// Which names may come from which addresses.
+    pub allow: &'a AllowList,
+    /// Whether each connection that is over is a line on `faults` too.
+    pub log: bool,
 }
 
 /// Serves a number of exchanges, many at once, and prints the line `exchange INDEX END` for each as
@@ -57,71 +69,50 @@ pub struct Bounds {
 /// - When memory is refused.
 /// - With `log`, when a line is missing.
 pub fn run_event_loop<B: Reactor, T: Turns, O: Sink, E: Sink>(
-    alloc: Global,
+    terms: &Terms<'_>,
     server: &mut Metered<T>,
     reactor: &mut B,
-    bounds: &Bounds,
-    allow: &AllowList,
-    log: bool,
     out: &mut O,
     faults: &mut E,
 ) -> Exit
     requires { T.committed (metered_server server.old) }
     // A round: a wait of 250 ms at most, new peers at free places, a quantum a place, a commit.
-    ensures { RunsEventLoop B.Reactor B.Link.Link (guarded_answers T.answers allow.now) T.commits O.Sink E.Sink log
-        bounds.now result (metered_server server.old) (metered_server server.new) reactor.old
-        reactor.new out.old out.new faults.old faults.new }
+    ensures { RunsEventLoop B.Reactor B.Link.Link (guarded_answers T.answers terms.now.allow.now) T.commits
+        O.Sink E.Sink terms.now.log terms.now.bounds result (metered_server server.old)
+        (metered_server server.new) reactor.old reactor.new out.old out.new faults.old faults.new }
 {
     let observer = &mut NoRoundObserver;
-    run_observed(
-        alloc, server, reactor, bounds, allow, log, observer, out, faults,
-    )
+    run_observed(terms, server, reactor, observer, out, faults)
 }
 
 /// The same, while an observer is shown the server after each round that ended well.
 pub fn run_observed<B: Reactor, T: Turns, V: RoundObserver<T>, O: Sink, E: Sink>(
-    alloc: Global,
+    terms: &Terms<'_>,
     server: &mut Metered<T>,
     reactor: &mut B,
-    bounds: &Bounds,
-    allow: &AllowList,
-    log: bool,
     observer: &mut V,
     out: &mut O,
     faults: &mut E,
 ) -> Exit
     requires { T.committed (metered_server server.old) }
-    ensures runs { RunsEventLoop B.Reactor B.Link.Link (guarded_answers T.answers allow.now) T.commits O.Sink E.Sink
-        log bounds.now result (metered_server server.old) (metered_server server.new) reactor.old
-        reactor.new out.old out.new faults.old faults.new }
+    ensures runs { RunsEventLoop B.Reactor B.Link.Link (guarded_answers T.answers terms.now.allow.now) T.commits
+        O.Sink E.Sink terms.now.log terms.now.bounds result (metered_server server.old)
+        (metered_server server.new) reactor.old reactor.new out.old out.new faults.old faults.new }
     // Nothing else happens to the observer.
-    ensures observed { ObservesRun B.Reactor B.Link.Link (guarded_answers T.answers allow.now) T.commits O.Sink
-        E.Sink log V.looks bounds.now result (metered_server server.old) (metered_server server.new) reactor.old
-        reactor.new out.old out.new faults.old faults.new observer.old observer.new }
+    ensures observed { ObservesRun B.Reactor B.Link.Link (guarded_answers T.answers terms.now.allow.now) T.commits
+        O.Sink E.Sink terms.now.log V.looks terms.now.bounds result (metered_server server.old)
+        (metered_server server.new) reactor.old reactor.new out.old out.new faults.old faults.new observer.old
+        observer.new }
 {
-    let Ok(mut event_loop) = EventLoop::new(alloc, bounds.places) else {
-        return Exit::Memory;
-    };
-    let Ok(mut buffer) = Vec::from_elem(alloc, 0u8, MESSAGE_PIECE) else {
+    let Ok(mut event_loop) = EventLoop::new(terms.alloc, terms.bounds.places) else {
         return Exit::Memory;
     };
     bw_connections::laws::law_connections::<B::Link>();
     for _round in 0..u64::MAX {
-        if event_loop.ended() >= bounds.exchanges {
+        if event_loop.ended() >= terms.bounds.exchanges {
             return Exit::Done;
         }
-        let Ok(kept) = serve_round(
-            alloc,
-            &mut event_loop,
-            server,
-            reactor,
-            bounds,
-            allow,
-            log,
-            &mut buffer,
-            out,
-            faults,
-        ) else {
+        let Ok(kept) = serve_round(terms, &mut event_loop, server, reactor, out, faults) else {
             return Exit::Device;
         };
         event_loop.show(server, observer);
@@ -157,46 +148,42 @@ fn patience(can_go_on: bool) -> u64
 /// # Errors
 /// `Shut` if no more peers are accepted, or waiting is impossible.
 fn serve_round<B: Reactor, T: Turns, O: Sink, E: Sink>(
-    alloc: Global,
+    terms: &Terms<'_>,
     event_loop: &mut EventLoop<B::Link>,
     server: &mut Metered<T>,
     reactor: &mut B,
-    bounds: &Bounds,
-    allow: &AllowList,
-    log: bool,
-    buffer: &mut Vec<u8>,
     out: &mut O,
     faults: &mut E,
 ) -> Result<Result<(), NotKept>, Shut>
-    requires buffer { vec_len buffer.old ≤ longest_message_piece }
     requires committed { T.committed (metered_server server.old) }
-    requires begun { begun_of event_loop.old.connections ≤ bounds.now.exchanges }
+    requires begun { begun_of event_loop.old.connections ≤ terms.now.bounds.exchanges }
     requires peer_slots { HasPeerSlots event_loop.old }
-    ensures round { IfOk result (λ kept. ServesRoundTo B.Reactor B.Link.Link (guarded_answers T.answers allow.now)
-        T.commits O.Sink E.Sink log kept bounds.now.idle bounds.now.exchanges event_loop.old
-        event_loop.new (metered_server server.old) (metered_server server.new) reactor.old reactor.new out.old out.new faults.old faults.new) }
+    ensures round { IfOk result (λ kept. ServesRoundTo B.Reactor B.Link.Link
+        (guarded_answers T.answers terms.now.allow.now) T.commits O.Sink E.Sink terms.now.log kept
+        terms.now.bounds.idle terms.now.bounds.exchanges event_loop.old event_loop.new
+        (metered_server server.old) (metered_server server.new) reactor.old reactor.new out.old out.new
+        faults.old faults.new) }
     ensures shut { OnErr result (IsShut B.Reactor B.Link.Link event_loop.old event_loop.new
         (metered_server server.old) (metered_server server.new) reactor.old reactor.new out.old out.new
         faults.old faults.new) }
     ensures committed { T.committed (metered_server server.new) }
-    ensures begun { begun_of event_loop.new.connections ≤ bounds.now.exchanges }
+    ensures begun { begun_of event_loop.new.connections ≤ terms.now.bounds.exchanges }
     ensures count { B.failures reactor.new ≡ failures_after result (B.failures reactor.old) }
     ensures waits { OnOk result (B.waits reactor.new ≡ one_more (B.waits reactor.old)) }
     ensures peer_slots { HasPeerSlots event_loop.new }
-    ensures buffer { vec_len buffer.new ≡ vec_len buffer.old }
 {
     let Ok(()) = reactor.wait(patience(event_loop.can_go_on())) else {
         return Err(Shut);
     };
     event_loop.notice(reactor);
     let now = reactor.now();
-    event_loop.welcome(alloc, reactor, bounds.exchanges, now)?;
+    event_loop.welcome(reactor, terms.bounds.exchanges, now)?;
     let round = Round {
         time: now,
-        idle: bounds.idle,
-        allow,
-        log,
+        idle: terms.bounds.idle,
+        allow: terms.allow,
+        log: terms.log,
     };
-    event_loop.serve_each(alloc, server, buffer.as_mut_slice(), &round, out, faults);
-    Ok(event_loop.commit(alloc, server, log, out, faults))
+    event_loop.serve_each(server, &round, out, faults);
+    Ok(event_loop.commit(server, terms.log, out, faults))
 }

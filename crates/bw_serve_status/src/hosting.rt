@@ -12,7 +12,9 @@ use bw_console::{Exit, Fault};
 use bw_exchange::{Metered, Turns};
 use bw_operators::{AllowList, StatusPort, StatusSetup};
 use bw_ports::{ListenerSetup, Reactor};
-use bw_serve::{Hosting, OpenedServer, print_opening, report_end, report_unbound, run_observed};
+use bw_serve::{
+    Hosting, OpenedServer, Terms, print_opening, report_end, report_unbound, run_observed,
+};
 use bw_session::HasTable;
 use bw_stream::Sink;
 use std::alloc::{AllocError, Global};
@@ -74,13 +76,16 @@ pub fn serve_shown<
     if let Err(exit) = print_opening(alloc, takes, address, out, faults) {
         return exit;
     }
-    let exit = run_observed(
+    let terms = Terms {
         alloc,
+        bounds: hosting.bounds,
+        allow: hosting.allow,
+        log: hosting.log,
+    };
+    let exit = run_observed(
+        &terms,
         &mut server,
         &mut reactor,
-        &hosting.bounds,
-        hosting.allow,
-        hosting.log,
         &mut observer,
         out,
         faults,

@@ -7,7 +7,7 @@ use bw_exchange::Metered;
 use bw_layout::Limit;
 use bw_model::Name;
 use bw_operators::AllowList;
-use bw_serve::{Bounds, run_event_loop};
+use bw_serve::{Bounds, Terms, run_event_loop};
 use bw_session::Server;
 use bw_store::MemoryStore;
 use bw_stream::MemorySink;
@@ -83,13 +83,16 @@ pub(crate) fn try_serve(alloc: Global, bounds: &Bounds, log: bool, plan: Plan) -
     let mut out = MemorySink::new(Vec::new(alloc));
     let mut faults = MemorySink::new(Vec::new(alloc));
     let allow = AllowList::everyone();
-    let exit = run_event_loop(
+    let terms = Terms {
         alloc,
+        bounds: *bounds,
+        allow: &allow,
+        log,
+    };
+    let exit = run_event_loop(
+        &terms,
         &mut server,
         &mut scripted_reactor,
-        bounds,
-        &allow,
-        log,
         &mut out,
         &mut faults,
     );

@@ -12,12 +12,6 @@ returns-in_default-clause-runs g c = (refl, refl, refl, refl)
 pub returns-in_default-clause-observed : goal.returns-in_default-clause-observed
 returns-in_default-clause-observed g c = refl
 
-pub returns-in_default-from_elem-clause-runs : goal.returns-in_default-from_elem-clause-runs
-returns-in_default-from_elem-clause-runs g c = (refl, refl, refl, refl)
-
-pub returns-in_default-from_elem-clause-observed : goal.returns-in_default-from_elem-clause-observed
-returns-in_default-from_elem-clause-observed g c = refl
-
 pub loop-round-init : goal.loop-round-init
 loop-round-init g c =
     let n = c.in-Ok.ensures in
@@ -26,14 +20,13 @@ loop-round-init g c =
       runs = (
         _,
         refl,
-        runs_none g.B.Reactor g.B.Link.Link (guarded_answers g.T.Turns.answers c.args.allow.now) g.T.Turns.commits g.O.Sink g.E.Sink
-            c.args.log
-            g.V.RoundObserver.looks c.args.bounds.now.places c.args.bounds.now.idle c.args.bounds.now.exchanges c.in-Ok.event_loop
+        runs_none g.B.Reactor g.B.Link.Link (guarded_answers g.T.Turns.answers c.args.terms.now.allow.now) g.T.Turns.commits g.O.Sink g.E.Sink
+            c.args.terms.now.log
+            g.V.RoundObserver.looks c.args.terms.now.bounds.places c.args.terms.now.bounds.idle c.args.terms.now.bounds.exchanges c.in-Ok.event_loop
             c.args.server.now.server c.args.reactor.now c.args.out.now c.args.faults.now c.args.observer.now n,
       );
       begun = omega (arith, begun);
       peer_slots = n.peer_slots_are ∙ sym n.places_are;
-      buffer = search rules;
       failures = refl;
       committed = c.requires;
       waits = omega arith;
@@ -48,25 +41,21 @@ loop-round-preserved g c =
       runs = (
         ok.round.0.outcome,
         subst (λ r. goes_on_after r ≡ true) (sym ok.round.1) (search rules),
-        runs_more g.B.Reactor g.B.Link.Link (guarded_answers g.T.Turns.answers c.args.allow.now) g.T.Turns.commits g.O.Sink g.E.Sink
-            c.args.log
-            g.V.RoundObserver.looks l.invariant.runs.0 l.invariant.runs.1 c.args.bounds.now.places c.args.bounds.now.idle
-            c.args.bounds.now.exchanges l.event_loop r.new.event_loop
+        runs_more g.B.Reactor g.B.Link.Link (guarded_answers g.T.Turns.answers c.args.terms.now.allow.now) g.T.Turns.commits g.O.Sink g.E.Sink
+            c.args.terms.now.log
+            g.V.RoundObserver.looks l.invariant.runs.0 l.invariant.runs.1 c.args.terms.now.bounds.places c.args.terms.now.bounds.idle
+            c.args.terms.now.bounds.exchanges l.event_loop r.new.event_loop
             c.args.server.now.server l.server.server r.new.server.server c.args.reactor.now l.reactor r.new.reactor
             c.args.out.now l.out r.new.out c.args.faults.now l.faults r.new.faults c.args.observer.now l.observer
             _ l.invariant.runs.2 (search rules) ok.round.0 (search rules),
       );
       begun = r.ensures.begun;
       peer_slots = r.ensures.peer_slots;
-      buffer = (let same = r.ensures.buffer in let was = l.invariant.buffer in omega (arith, same, was));
       failures = ok.count ∙ l.invariant.failures;
       committed = r.ensures.committed;
       waits = subst (λ (n : ℕ). l._round + 1 ≤ n) (sym ok.waits)
           (waited_more l._round (g.B.Reactor.waits l.reactor) (search rules) l.invariant.waits);
     }
-
-pub serve_round-requires-clause-buffer : goal.serve_round-requires-clause-buffer
-serve_round-requires-clause-buffer g c = c.loop-round.invariant.buffer
 
 pub serve_round-requires-clause-committed : goal.serve_round-requires-clause-committed
 serve_round-requires-clause-committed g c = c.loop-round.invariant.committed
@@ -80,12 +69,12 @@ serve_round-requires-clause-peer_slots g c = c.loop-round.invariant.peer_slots
 pub returns-then-ended-bounds-clause-observed : goal.returns-then-ended-bounds-clause-observed
 returns-then-ended-bounds-clause-observed g c =
     let l = c.loop-round in
-    runs_over g.B.Reactor g.B.Link.Link (guarded_answers g.T.Turns.answers c.args.allow.now) g.T.Turns.commits g.O.Sink g.E.Sink c.args.log
+    runs_over g.B.Reactor g.B.Link.Link (guarded_answers g.T.Turns.answers c.args.terms.now.allow.now) g.T.Turns.commits g.O.Sink g.E.Sink c.args.terms.now.log
     g.V.RoundObserver.looks
-    c.law_connections.ensures l.invariant.runs.0 c.args.bounds.now exits.Done l.event_loop c.args.server.now.server l.server.server
+    c.law_connections.ensures l.invariant.runs.0 c.args.terms.now.bounds exits.Done l.event_loop c.args.server.now.server l.server.server
     c.args.reactor.now l.reactor c.args.out.now l.out c.args.faults.now l.faults c.args.observer.now l.observer
     l.invariant.runs.2 l.invariant.begun
-    (λ over is. (all_ended c.args.bounds.now.exchanges l.event_loop over is (search rules), l.invariant.failures))
+    (λ over is. (all_ended c.args.terms.now.bounds.exchanges l.event_loop over is (search rules), l.invariant.failures))
 
 pub returns-then-ended-bounds-clause-runs : goal.returns-then-ended-bounds-clause-runs
 returns-then-ended-bounds-clause-runs g c = (returns-then-ended-bounds-clause-observed g c).run
@@ -95,9 +84,9 @@ returns-in_default-serve_round-clause-observed g c =
     let l = c.loop-round in
     let r = c.serve_round in
     let shut = c.in_default-serve_round.ensures in
-    runs_shut g.B.Reactor g.B.Link.Link (guarded_answers g.T.Turns.answers c.args.allow.now) g.T.Turns.commits g.O.Sink g.E.Sink c.args.log
+    runs_shut g.B.Reactor g.B.Link.Link (guarded_answers g.T.Turns.answers c.args.terms.now.allow.now) g.T.Turns.commits g.O.Sink g.E.Sink c.args.terms.now.log
     g.V.RoundObserver.looks
-    c.law_connections.ensures l.invariant.runs.0 c.args.bounds.now exits.Device l.event_loop r.new.event_loop c.args.server.now.server
+    c.law_connections.ensures l.invariant.runs.0 c.args.terms.now.bounds exits.Device l.event_loop r.new.event_loop c.args.server.now.server
     l.server.server r.new.server.server c.args.reactor.now l.reactor r.new.reactor c.args.out.now l.out r.new.out
     c.args.faults.now l.faults r.new.faults c.args.observer.now l.observer l.invariant.runs.2 shut.shut r.ensures.begun
     (λ over. inl (inl (shut.count ∙ ap one_more l.invariant.failures)))
@@ -110,14 +99,14 @@ returns-then-not-may_go_on-clause-observed g c =
     let l = c.loop-round in
     let r = c.serve_round in
     let round = c.in-Ok-serve_round.ensures.round in
-    runs_over g.B.Reactor g.B.Link.Link (guarded_answers g.T.Turns.answers c.args.allow.now) g.T.Turns.commits g.O.Sink g.E.Sink c.args.log
+    runs_over g.B.Reactor g.B.Link.Link (guarded_answers g.T.Turns.answers c.args.terms.now.allow.now) g.T.Turns.commits g.O.Sink g.E.Sink c.args.terms.now.log
     g.V.RoundObserver.looks
-    c.law_connections.ensures round.0.outcome c.args.bounds.now exits.Device r.new.event_loop c.args.server.now.server
+    c.law_connections.ensures round.0.outcome c.args.terms.now.bounds exits.Device r.new.event_loop c.args.server.now.server
     r.new.server.server c.args.reactor.now r.new.reactor c.args.out.now r.new.out c.args.faults.now r.new.faults
     c.args.observer.now c.show.new.observer
-    (runs_more g.B.Reactor g.B.Link.Link (guarded_answers g.T.Turns.answers c.args.allow.now) g.T.Turns.commits g.O.Sink g.E.Sink c.args.log
-    g.V.RoundObserver.looks l.invariant.runs.0 l.invariant.runs.1 c.args.bounds.now.places c.args.bounds.now.idle
-    c.args.bounds.now.exchanges l.event_loop r.new.event_loop
+    (runs_more g.B.Reactor g.B.Link.Link (guarded_answers g.T.Turns.answers c.args.terms.now.allow.now) g.T.Turns.commits g.O.Sink g.E.Sink c.args.terms.now.log
+    g.V.RoundObserver.looks l.invariant.runs.0 l.invariant.runs.1 c.args.terms.now.bounds.places c.args.terms.now.bounds.idle
+    c.args.terms.now.bounds.exchanges l.event_loop r.new.event_loop
     c.args.server.now.server l.server.server r.new.server.server c.args.reactor.now l.reactor r.new.reactor
     c.args.out.now l.out r.new.out c.args.faults.now l.faults r.new.faults c.args.observer.now l.observer
     _ l.invariant.runs.2 (search rules) round.0 (search rules))
@@ -131,9 +120,9 @@ returns-then-not-may_go_on-clause-runs g c = (returns-then-not-may_go_on-clause-
 pub returns-clause-observed : goal.returns-clause-observed
 returns-clause-observed g c =
     let l = c.loop-round in
-    runs_over g.B.Reactor g.B.Link.Link (guarded_answers g.T.Turns.answers c.args.allow.now) g.T.Turns.commits g.O.Sink g.E.Sink c.args.log
+    runs_over g.B.Reactor g.B.Link.Link (guarded_answers g.T.Turns.answers c.args.terms.now.allow.now) g.T.Turns.commits g.O.Sink g.E.Sink c.args.terms.now.log
     g.V.RoundObserver.looks
-    c.law_connections.ensures l.invariant.runs.0 c.args.bounds.now exits.Device l.event_loop c.args.server.now.server l.server.server
+    c.law_connections.ensures l.invariant.runs.0 c.args.terms.now.bounds exits.Device l.event_loop c.args.server.now.server l.server.server
     c.args.reactor.now l.reactor c.args.out.now l.out c.args.faults.now l.faults c.args.observer.now l.observer
     l.invariant.runs.2 l.invariant.begun (λ over is. inl (inr (search rules)))
 

@@ -51,11 +51,11 @@ returns-clause-round g c =
     let at : c.now-now.result ≡ g.B.Reactor.time c.welcome.new.reactor =
     c.now-now.ensures.time ∙ sym c.welcome.ensures.time in
     let n = connection_count c.welcome.new.self.connections in
-    let turn : InTurn g.B.Link.Link (guarded_answers g.T.Turns.answers c.args.allow.now) g.O.Sink g.E.Sink c.args.log
-    (g.B.Reactor.time c.welcome.new.reactor) c.args.bounds.now.idle n c.welcome.new.self e.new.self
+    let turn : InTurn g.B.Link.Link (guarded_answers g.T.Turns.answers c.args.terms.now.allow.now) g.O.Sink g.E.Sink c.args.terms.now.log
+    (g.B.Reactor.time c.welcome.new.reactor) c.args.terms.now.bounds.idle n c.welcome.new.self e.new.self
     c.args.server.now.server e.new.server.server c.args.out.now e.new.out c.args.faults.now e.new.faults =
-    subst (λ (now : ℕ). InTurn g.B.Link.Link (guarded_answers g.T.Turns.answers c.args.allow.now) g.O.Sink g.E.Sink c.args.log now
-    c.args.bounds.now.idle n c.welcome.new.self e.new.self
+    subst (λ (now : ℕ). InTurn g.B.Link.Link (guarded_answers g.T.Turns.answers c.args.terms.now.allow.now) g.O.Sink g.E.Sink c.args.terms.now.log now
+    c.args.terms.now.bounds.idle n c.welcome.new.self e.new.self
     c.args.server.now.server e.new.server.server c.args.out.now e.new.out c.args.faults.now e.new.faults) at
     e.ensures.in_turn in (
       record {
@@ -83,11 +83,11 @@ returns-clause-round g c =
         printed = e.new.out;
         logged = e.new.faults;
         in_turn = turn;
-        kept = guarded_committed g.T.Turns.answers c.args.allow.now e.new.server.server c.commit.new.server.server
+        kept = guarded_committed g.T.Turns.answers c.args.terms.now.allow.now e.new.server.server c.commit.new.server.server
             c.commit.ensures.answered c.args.server.now.server _
             (λ same. c.commit.ensures.idle (subst (λ x. g.T.Turns.committed x) (sym same) c.requires.committed))
-            (turn_advances g.B.Link.Link (guarded_answers g.T.Turns.answers c.args.allow.now) g.O.Sink g.E.Sink c.args.log
-            (g.B.Reactor.time c.welcome.new.reactor) c.args.bounds.now.idle n c.welcome.new.self e.new.self
+            (turn_advances g.B.Link.Link (guarded_answers g.T.Turns.answers c.args.terms.now.allow.now) g.O.Sink g.E.Sink c.args.terms.now.log
+            (g.B.Reactor.time c.welcome.new.reactor) c.args.terms.now.bounds.idle n c.welcome.new.self e.new.self
             c.args.server.now.server e.new.server.server c.args.out.now e.new.out c.args.faults.now e.new.faults turn).by_server;
         outcome = c.commit.result;
         committed = c.commit.ensures.commits;
@@ -99,9 +99,9 @@ returns-clause-round g c =
 pub returns-clause-begun : goal.returns-clause-begun
 returns-clause-begun g c =
     let e = c.serve_each in
-    subst (λ (n : ℕ). n ≤ c.args.bounds.now.exchanges)
-    (sym (c.commit.ensures.withholds.begun ∙ turn_begun g.B.Link.Link (guarded_answers g.T.Turns.answers c.args.allow.now) g.O.Sink
-    g.E.Sink c.args.log c.now-now.result c.args.bounds.now.idle (connection_count c.welcome.new.self.connections) c.welcome.new.self
+    subst (λ (n : ℕ). n ≤ c.args.terms.now.bounds.exchanges)
+    (sym (c.commit.ensures.withholds.begun ∙ turn_begun g.B.Link.Link (guarded_answers g.T.Turns.answers c.args.terms.now.allow.now) g.O.Sink
+    g.E.Sink c.args.terms.now.log c.now-now.result c.args.terms.now.bounds.idle (connection_count c.welcome.new.self.connections) c.welcome.new.self
     e.new.self c.args.server.now.server e.new.server.server c.args.out.now e.new.out c.args.faults.now e.new.faults
     e.ensures.in_turn))
     c.welcome.ensures.most
@@ -110,8 +110,8 @@ pub returns-clause-peer_slots : goal.returns-clause-peer_slots
 returns-clause-peer_slots g c =
     let e = c.serve_each in
     let w = c.commit.ensures.withholds in
-    let quanta = turn_peer_slots g.B.Link.Link (guarded_answers g.T.Turns.answers c.args.allow.now) g.O.Sink g.E.Sink c.args.log
-    c.now-now.result c.args.bounds.now.idle
+    let quanta = turn_peer_slots g.B.Link.Link (guarded_answers g.T.Turns.answers c.args.terms.now.allow.now) g.O.Sink g.E.Sink c.args.terms.now.log
+    c.now-now.result c.args.terms.now.bounds.idle
     (connection_count c.welcome.new.self.connections) c.welcome.new.self e.new.self c.args.server.now.server e.new.server.server
     c.args.out.now e.new.out c.args.faults.now e.new.faults e.ensures.in_turn
     (grown_peer_slots g.B.Link.Link c.notice.new.self c.welcome.new.self c.welcome.ensures.grows
@@ -122,8 +122,8 @@ pub commit-requires : goal.commit-requires
 commit-requires g c =
     let e = c.serve_each in
     record {
-      peer_slots = turn_peer_slots g.B.Link.Link (guarded_answers g.T.Turns.answers c.args.allow.now) g.O.Sink g.E.Sink c.args.log
-          c.now-now.result c.args.bounds.now.idle
+      peer_slots = turn_peer_slots g.B.Link.Link (guarded_answers g.T.Turns.answers c.args.terms.now.allow.now) g.O.Sink g.E.Sink c.args.terms.now.log
+          c.now-now.result c.args.terms.now.bounds.idle
           (connection_count c.welcome.new.self.connections) c.welcome.new.self e.new.self c.args.server.now.server e.new.server.server
           c.args.out.now e.new.out c.args.faults.now e.new.faults e.ensures.in_turn
           (grown_peer_slots g.B.Link.Link c.notice.new.self c.welcome.new.self c.welcome.ensures.grows
