@@ -30,6 +30,17 @@ pub(crate) struct Locked<S, K> {
     pub(crate) lock: K,
 }
 
+/// Over which folder a server is opened, and how.
+#[derive(Clone, Copy)]
+pub(crate) struct Opening<'a> {
+    /// The folder, as it was given.
+    pub(crate) folder: &'a str,
+    /// How large a take may grow.
+    pub(crate) limit: Limit,
+    /// Whether what it keeps is synced.
+    pub(crate) sync: bool,
+}
+
 /// Opens a kept server over a folder, once the folder is locked. No journal is read, and no file is
 /// changed.
 ///
@@ -45,15 +56,19 @@ pub(crate) fn open_locked<L: FolderLocks, D: Volume, E: Volume>(
     locks: &mut L,
     takes: D,
     notes: E,
-    folder: &str,
-    limit: Limit,
-    sync: bool,
+    opening: &Opening<'_>,
 ) -> Result<Locked<KeptOver<D, E>, L::Lock>, (StartRefusal, D, E)>
-    ensures { (answer : Result L.Lock Refusal) × L.locks locks.old folder.now answer locks.new
+    ensures { (answer : Result L.Lock Refusal) × L.locks locks.old opening.now.folder.now answer locks.new
         × MatchResult result
-        (λ it. (answer ≡ Ok it.lock) × OpensOver limit folder.now sync takes notes it.opened)
+        (λ it. (answer ≡ Ok it.lock) × OpensOver opening.now.limit opening.now.folder.now opening.now.sync
+        takes notes it.opened)
         (λ e. IsRefusedUnder answer e.0 × (e.1 ≡ takes) × StaysWhole E.Disk notes e.2) }
 {
+    let Opening {
+        folder,
+        limit,
+        sync,
+    } = *opening;
     let lock = match locks.lock(folder) {
         Ok(lock) => lock,
         Err(refusal) => return Err((refusal_by_lock(refusal), takes, notes)),
