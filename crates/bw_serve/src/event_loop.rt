@@ -280,12 +280,7 @@ impl<L: Link + Drop> EventLoop<L> {
     }
 
     /// Ends each connection over which replies wait, in the order of their places.
-    fn withhold_each<O: Sink, E: Sink>(
-        &mut self,
-        log: bool,
-        out: &mut O,
-        faults: &mut E,
-    )
+    fn withhold_each<O: Sink, E: Sink>(&mut self, log: bool, out: &mut O, faults: &mut E)
         requires peer_slots { HasPeerSlots self.old }
         ensures { Withholds L.Link O.Sink E.Sink log (connection_count self.old.connections)
             self.old self.new out.old out.new faults.old faults.new }
@@ -371,13 +366,6 @@ impl<L: Link + Drop> EventLoop<L> {
         print_end(self.ended, closed.end, out);
         self.ended = self.ended.saturating_add(1);
         self.ended_by.count(closed.end);
-        report_at(
-            self.alloc,
-            &self.peer_slots,
-            place,
-            closed.end,
-            log,
-            faults,
-        );
+        report_at(self.alloc, &self.peer_slots, place, closed.end, log, faults);
     }
 }
