@@ -46,6 +46,15 @@ pub(crate) struct Extras {
     pub(crate) history: Vec<u8>,
 }
 
+/// What is known of a recording's file before its samples are read.
+#[derive(Clone, Copy)]
+struct Known<'a> {
+    path: &'a str,
+    options: &'a Options,
+    report: &'a Report,
+    extras: &'a Extras,
+}
+
 /// Opens the recording in the file at a path. The file is opened four times.
 ///
 /// # Errors
@@ -81,7 +90,13 @@ pub fn open_recording<F: RecordingFiles>(
         Ok(outline) => outline,
         Err(fault) => return Err(OpenFault::Refused(fault)),
     };
-    begin(alloc, files, path, options, &report, &extras, outline)
+    let known = Known {
+        path,
+        options,
+        report: &report,
+        extras: &extras,
+    };
+    begin(alloc, files, &known, outline)
 }
 
 /// The report of the file at a path.
@@ -194,32 +209,30 @@ fn history_at_path<F: RecordingFiles>(
 fn begin<F: RecordingFiles>(
     alloc: Global,
     files: &mut F,
-    path: &str,
-    options: &Options,
-    report: &Report,
-    extras: &Extras,
+    known: &Known<'_>,
     outline: Outline,
 ) -> Result<Opened<F::File>, OpenFault>
-    ensures ok { IfOk result (λ x. Of (F.file_at files.old path.now) (λ b.
-        IsOutlined b options.now report.now extras.now outline →
-        IsOpenedAt b options.now x.plan x.warnings.items (F.File.left x.reader))) }
+    ensures ok { IfOk result (λ x. Of (F.file_at files.old known.now.path.now) (λ b.
+        IsOutlined b known.now.options.now known.now.report.now known.now.extras.now outline →
+        IsOpenedAt b known.now.options.now x.plan x.warnings.items (F.File.left x.reader))) }
     ensures sound { IfOk result (λ x. IsSoundPlan x.plan.stage) }
-    ensures err { IfErr result (λ e. Of (F.file_at files.old path.now) (λ b.
-        IsOutlined b options.now report.now extras.now outline → RefusesAs b options.now e)) }
+    ensures err { IfErr result (λ e. Of (F.file_at files.old known.now.path.now) (λ b.
+        IsOutlined b known.now.options.now known.now.report.now known.now.extras.now outline →
+        RefusesAs b known.now.options.now e)) }
     ensures files { F.file_at files.new ≡ F.file_at files.old }
     ensures stamps { F.stamp_at files.new ≡ F.stamp_at files.old }
     ensures count { F.failures files.new ≡ failures_if (is_system_well result) (F.failures files.old) }
 {
-    let text = match allowed_losses(alloc, options, report, extras, &outline) {
+    let text = match allowed_losses(alloc, known.options, known.report, known.extras, &outline) {
         Ok(text) => text,
         Err(fault) => return Err(fault),
     };
-    let frames = block_frames(options, outline.format());
-    let mut reader = match files.open(path) {
+    let frames = block_frames(known.options, outline.format());
+    let mut reader = match files.open(known.path) {
         Ok(reader) => reader,
         Err(error) => return Err(OpenFault::Unopened(error)),
     };
-    match Plan::begin(alloc, &mut reader, outline, frames, report.data_at) {
+    match Plan::begin(alloc, &mut reader, outline, frames, known.report.data_at) {
         Ok(plan) => Ok(Opened {
             plan,
             reader,
