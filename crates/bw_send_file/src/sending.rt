@@ -14,7 +14,7 @@ use bw_console::{Exit, Fault};
 use bw_ports::{Dial, Pause};
 use bw_sender::Sender;
 use bw_stream::Sink;
-use bw_upload::{Feed, Observer, Uploaded, upload};
+use bw_upload::{Feed, Observer, PatientSender, Uploaded, upload};
 use std::alloc::{AllocError, Global};
 
 /// Sends what a feed gives of the file at a path, as a recorder, and prints how many requests are
@@ -82,19 +82,13 @@ pub(crate) fn send_by<X: Feed<Fault = FeedFault>, P: Pause, D: Dial, V: Observer
     let Ok(sender) = sender else {
         return give_up(faults, &Fault::Memory);
     };
-    let Uploaded { sender, outcome } = upload(
-        alloc,
-        sender,
-        recorder.fruitless,
-        feed,
-        pause,
-        dial,
-        observer,
-    );
+    let fruitless = recorder.fruitless;
+    let started = PatientSender { sender, fruitless };
+    let Uploaded { sender, outcome } = upload(alloc, started, feed, pause, dial, observer);
     match feed_fault(outcome) {
         Ok(fault) => {
-            let most = recorder.fruitless;
-            let uploaded = settle(alloc, sender, fault, most, pause, dial, observer);
+            let stopped = PatientSender { sender, fruitless };
+            let uploaded = settle(alloc, stopped, fault, pause, dial, observer);
             report_end(alloc, path, &uploaded, out, faults)
         }
         Err(outcome) => {

@@ -8,8 +8,7 @@ ghost use Rattle.bw_send_file.specs.Sendings.{outcome_after as defined_outcome, 
 
 use crate::fault::FeedFault;
 use bw_ports::{Dial, Pause};
-use bw_sender::Sender;
-use bw_upload::{Feed, Given, Observer, Outcome, Uploaded, upload};
+use bw_upload::{Feed, Given, Observer, Outcome, PatientSender, Uploaded, upload};
 use std::alloc::Global;
 
 /// A feed that has ended.
@@ -57,28 +56,23 @@ pub(crate) fn feed_fault(outcome: Outcome<FeedFault>) -> Result<FeedFault, Outco
 /// fault ends the upload; it ends otherwise if a request is refused.
 pub(crate) fn settle<P: Pause, D: Dial, V: Observer>(
     alloc: Global,
-    sender: Sender,
+    stopped: PatientSender,
     fault: FeedFault,
-    fruitless: Option<u32>,
     pause: &mut P,
     dial: &mut D,
     observer: &mut V,
 ) -> Uploaded<FeedFault>
-    ensures { (s : Defined) → IsSender s sender →
-        SettlesOffered P.Pause D.Dial D.Reader.Source D.Writer.Sink fruitless fault s result.sender
-        result.outcome pause.old pause.new dial.old dial.new }
+    ensures { (s : Defined) → IsSender s stopped.sender →
+        SettlesOffered P.Pause D.Dial D.Reader.Source D.Writer.Sink stopped.fruitless fault s
+        result.sender result.outcome pause.old pause.new dial.old dial.new }
 {
     let mut no_more = NoMore;
-    let most = settling_most(&fault, fruitless);
-    let Uploaded { sender, outcome } = upload(
-        alloc,
+    let PatientSender { sender, fruitless } = stopped;
+    let started = PatientSender {
         sender,
-        most,
-        &mut no_more,
-        pause,
-        dial,
-        observer,
-    );
+        fruitless: settling_most(&fault, fruitless),
+    };
+    let Uploaded { sender, outcome } = upload(alloc, started, &mut no_more, pause, dial, observer);
     Uploaded {
         sender,
         outcome: outcome_after(fault, outcome),

@@ -23,7 +23,7 @@ mod visit;
 mod watch;
 
 pub use feed::{Feed, Given};
-pub use links::upload;
+pub use links::{PatientSender, upload};
 pub use observer::{LinkEnd, LinkEvent, NoObserver, Observer};
 pub use outcome::{Outcome, Uploaded};
 pub use sending::send_run;

@@ -18,6 +18,15 @@ use bw_ports::{Dial, Pause};
 use bw_sender::{Sender, Stop};
 use std::alloc::Global;
 
+/// A sender, and how long it goes on.
+#[derive(Drop)]
+pub struct PatientSender {
+    /// What it was offered, and what became of that.
+    pub sender: Sender,
+    /// So many links in a row that settle nothing end its upload, if it is given.
+    pub fruitless: Option<u32>,
+}
+
 /// Sends what a feed gives as the requests of a sender, over one link as long as it lasts, and then
 /// over the next.
 ///
@@ -37,23 +46,24 @@ use std::alloc::Global;
 ///   reply, or after another reply for which the link is left.
 pub fn upload<F: Feed, P: Pause, D: Dial, V: Observer>(
     alloc: Global,
-    sender: Sender,
-    fruitless: Option<u32>,
+    started: PatientSender,
     feed: &mut F,
     pause: &mut P,
     dial: &mut D,
     observer: &mut V,
 ) -> Uploaded<F::Fault>
     // The sender that comes back counts, by `law_world`, only what the server's take has.
-    ensures { (s : Defined) → IsSender s sender →
-        Uploads F.Feed P.Pause D.Dial D.Reader.Source D.Writer.Sink fruitless s result.sender
+    ensures { (s : Defined) → IsSender s started.sender →
+        Uploads F.Feed P.Pause D.Dial D.Reader.Source D.Writer.Sink started.fruitless s result.sender
         result.outcome feed.old feed.new pause.old pause.new dial.old dial.new }
 {
+    let PatientSender { sender, fruitless } = started;
     let mut supply = Supply {
+        alloc,
         sender,
         is_ended: false,
     };
-    let outcome = make_links(alloc, &mut supply, fruitless, feed, pause, dial, observer);
+    let outcome = make_links(&mut supply, fruitless, feed, pause, dial, observer);
     Uploaded {
         sender: supply.sender,
         outcome,
@@ -62,7 +72,6 @@ pub fn upload<F: Feed, P: Pause, D: Dial, V: Observer>(
 
 /// Makes links and uses them, one after another. Returns how the upload ends.
 fn make_links<F: Feed, P: Pause, D: Dial, V: Observer>(
-    alloc: Global,
     supply: &mut Supply,
     most: Option<u32>,
     feed: &mut F,
@@ -74,6 +83,7 @@ fn make_links<F: Feed, P: Pause, D: Dial, V: Observer>(
         Uploads F.Feed P.Pause D.Dial D.Reader.Source D.Writer.Sink most s supply.new.sender
         result feed.old feed.new pause.old pause.new dial.old dial.new }
 {
+    let alloc = supply.alloc;
     let mut fruitless = 0;
     for links in 0..u64::MAX {
         if let Err(outcome) = prepare(supply, most, fruitless, feed, pause) {

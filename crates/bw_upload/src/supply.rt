@@ -11,6 +11,7 @@ use crate::outcome::Outcome;
 use bw_model::Request;
 use bw_ports::Pause;
 use bw_sender::{OfferError, Sender};
+use std::alloc::Global;
 
 /// The milliseconds before a feed that has nothing yet is asked again.
 const ASK_AGAIN: u32 = 100;
@@ -18,6 +19,7 @@ const ASK_AGAIN: u32 = 100;
 /// A sender, and whether more requests can come.
 #[derive(Drop)]
 pub(crate) struct Supply {
+    pub(crate) alloc: Global,
     pub(crate) sender: Sender,
     /// The feed has ended.
     pub(crate) is_ended: bool,
