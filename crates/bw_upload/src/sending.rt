@@ -58,7 +58,8 @@ pub fn send_run<D: Dial, R: Source, W: Sink, E: Sink, V: Watch>(
     ensures within { Of (R.left input.old) (λ xs. IsReadAhead xs (R.left input.new)) }
     ensures most { R.moved input.new ≤ R.moved input.old + (longest_input + 1) }
 {
-    match send(alloc, name, rounds, input, dial, out, watch) {
+    let sender = RoundSender { name, rounds };
+    match send(alloc, sender, input, dial, out, watch) {
         Ok(exit) => report_of_exit(exit, faults),
         Err(fault) => give_up(faults, &fault),
     }
@@ -77,11 +78,17 @@ fn report_of_exit<E: Sink>(exit: Exit, faults: &mut E) -> Exit
     exit
 }
 
+/// Who sends in rounds, and in how many at most.
+#[derive(Drop)]
+struct RoundSender {
+    name: Name,
+    rounds: u32,
+}
+
 /// Sends the requests in the lines of the input, and writes the outcome as text.
 fn send<D: Dial, R: Source, W: Sink, V: Watch>(
     alloc: Global,
-    name: Name,
-    rounds: u32,
+    sender: RoundSender,
     input: &mut R,
     dial: &mut D,
     out: &mut W,
@@ -91,10 +98,11 @@ fn send<D: Dial, R: Source, W: Sink, V: Watch>(
     ensures most { R.moved input.new ≤ R.moved input.old + (longest_input + 1) }
     ensures count { R.failures input.new ≡ failures_if (is_read result) (R.failures input.old) }
     ensures prints { (print : Print)
-        × IsPrintOfSend D.Dial D.Reader.Source D.Writer.Sink name rounds
+        × IsPrintOfSend D.Dial D.Reader.Source D.Writer.Sink sender.name sender.rounds
         (R.left input.old) dial.old dial.new result print
         × IsPrint W.Sink print out.old out.new }
 {
+    let RoundSender { name, rounds } = sender;
     let requests = read_requests(alloc, input)?;
     let dispatch = send_requests(alloc, name, rounds, requests.as_slice(), dial, watch)?;
     let text = text_of_sender(alloc, &dispatch.sender)?;
