@@ -30,7 +30,8 @@ returns g c =
             ended = ran.result;
             logged = ran.new.faults;
             run = run;
-            answers_all = by_loop (guarded_answers g.T.Turns.answers c.args.hosting.now.allow.now) g.T.Turns.commits g.N.Reactor.Reactor
+            answers_all = by_loop (guarded_answers g.T.Turns.answers c.args.hosting.now.allow.now) g.T.Turns.commits
+                g.N.Reactor.Reactor
                 g.N.Reactor.Link.Link g.O.Sink
                 g.E.Sink c.args.hosting.now.log c.args.hosting.now.bounds ran.result c.args.opened.server
                 ran.new.server.server c.in-Ok.reactor ran.new.reactor c.print_opening.new.out ran.new.out

@@ -20,9 +20,11 @@ loop-round-init g c =
       runs = (
         _,
         refl,
-        runs_none g.B.Reactor g.B.Link.Link (guarded_answers g.T.Turns.answers c.args.terms.now.allow.now) g.T.Turns.commits g.O.Sink g.E.Sink
+        runs_none g.B.Reactor g.B.Link.Link (guarded_answers g.T.Turns.answers c.args.terms.now.allow.now)
+            g.T.Turns.commits g.O.Sink g.E.Sink
             c.args.terms.now.log
-            g.V.RoundObserver.looks c.args.terms.now.bounds.places c.args.terms.now.bounds.idle c.args.terms.now.bounds.exchanges c.in-Ok.event_loop
+            g.V.RoundObserver.looks c.args.terms.now.bounds.places c.args.terms.now.bounds.idle
+            c.args.terms.now.bounds.exchanges c.in-Ok.event_loop
             c.args.server.now.server c.args.reactor.now c.args.out.now c.args.faults.now c.args.observer.now n,
       );
       begun = omega (arith, begun);
@@ -41,9 +43,11 @@ loop-round-preserved g c =
       runs = (
         ok.round.0.outcome,
         subst (λ r. goes_on_after r ≡ true) (sym ok.round.1) (search rules),
-        runs_more g.B.Reactor g.B.Link.Link (guarded_answers g.T.Turns.answers c.args.terms.now.allow.now) g.T.Turns.commits g.O.Sink g.E.Sink
+        runs_more g.B.Reactor g.B.Link.Link (guarded_answers g.T.Turns.answers c.args.terms.now.allow.now)
+            g.T.Turns.commits g.O.Sink g.E.Sink
             c.args.terms.now.log
-            g.V.RoundObserver.looks l.invariant.runs.0 l.invariant.runs.1 c.args.terms.now.bounds.places c.args.terms.now.bounds.idle
+            g.V.RoundObserver.looks l.invariant.runs.0 l.invariant.runs.1 c.args.terms.now.bounds.places
+            c.args.terms.now.bounds.idle
             c.args.terms.now.bounds.exchanges l.event_loop r.new.event_loop
             c.args.server.now.server l.server.server r.new.server.server c.args.reactor.now l.reactor r.new.reactor
             c.args.out.now l.out r.new.out c.args.faults.now l.faults r.new.faults c.args.observer.now l.observer
@@ -69,9 +73,11 @@ serve_round-requires-clause-peer_slots g c = c.loop-round.invariant.peer_slots
 pub returns-then-ended-bounds-clause-observed : goal.returns-then-ended-bounds-clause-observed
 returns-then-ended-bounds-clause-observed g c =
     let l = c.loop-round in
-    runs_over g.B.Reactor g.B.Link.Link (guarded_answers g.T.Turns.answers c.args.terms.now.allow.now) g.T.Turns.commits g.O.Sink g.E.Sink c.args.terms.now.log
+    runs_over g.B.Reactor g.B.Link.Link (guarded_answers g.T.Turns.answers c.args.terms.now.allow.now) g.T.Turns.commits
+    g.O.Sink g.E.Sink c.args.terms.now.log
     g.V.RoundObserver.looks
-    c.law_connections.ensures l.invariant.runs.0 c.args.terms.now.bounds exits.Done l.event_loop c.args.server.now.server l.server.server
+    c.law_connections.ensures l.invariant.runs.0 c.args.terms.now.bounds exits.Done l.event_loop
+    c.args.server.now.server l.server.server
     c.args.reactor.now l.reactor c.args.out.now l.out c.args.faults.now l.faults c.args.observer.now l.observer
     l.invariant.runs.2 l.invariant.begun
     (λ over is. (all_ended c.args.terms.now.bounds.exchanges l.event_loop over is (search rules), l.invariant.failures))
@@ -84,9 +90,11 @@ returns-in_default-serve_round-clause-observed g c =
     let l = c.loop-round in
     let r = c.serve_round in
     let shut = c.in_default-serve_round.ensures in
-    runs_shut g.B.Reactor g.B.Link.Link (guarded_answers g.T.Turns.answers c.args.terms.now.allow.now) g.T.Turns.commits g.O.Sink g.E.Sink c.args.terms.now.log
+    runs_shut g.B.Reactor g.B.Link.Link (guarded_answers g.T.Turns.answers c.args.terms.now.allow.now) g.T.Turns.commits
+    g.O.Sink g.E.Sink c.args.terms.now.log
     g.V.RoundObserver.looks
-    c.law_connections.ensures l.invariant.runs.0 c.args.terms.now.bounds exits.Device l.event_loop r.new.event_loop c.args.server.now.server
+    c.law_connections.ensures l.invariant.runs.0 c.args.terms.now.bounds exits.Device l.event_loop r.new.event_loop
+    c.args.server.now.server
     l.server.server r.new.server.server c.args.reactor.now l.reactor r.new.reactor c.args.out.now l.out r.new.out
     c.args.faults.now l.faults r.new.faults c.args.observer.now l.observer l.invariant.runs.2 shut.shut r.ensures.begun
     (λ over. inl (inl (shut.count ∙ ap one_more l.invariant.failures)))
@@ -99,13 +107,17 @@ returns-then-not-may_go_on-clause-observed g c =
     let l = c.loop-round in
     let r = c.serve_round in
     let round = c.in-Ok-serve_round.ensures.round in
-    runs_over g.B.Reactor g.B.Link.Link (guarded_answers g.T.Turns.answers c.args.terms.now.allow.now) g.T.Turns.commits g.O.Sink g.E.Sink c.args.terms.now.log
+    runs_over g.B.Reactor g.B.Link.Link (guarded_answers g.T.Turns.answers c.args.terms.now.allow.now) g.T.Turns.commits
+    g.O.Sink g.E.Sink c.args.terms.now.log
     g.V.RoundObserver.looks
-    c.law_connections.ensures round.0.outcome c.args.terms.now.bounds exits.Device r.new.event_loop c.args.server.now.server
+    c.law_connections.ensures round.0.outcome c.args.terms.now.bounds exits.Device r.new.event_loop
+    c.args.server.now.server
     r.new.server.server c.args.reactor.now r.new.reactor c.args.out.now r.new.out c.args.faults.now r.new.faults
     c.args.observer.now c.show.new.observer
-    (runs_more g.B.Reactor g.B.Link.Link (guarded_answers g.T.Turns.answers c.args.terms.now.allow.now) g.T.Turns.commits g.O.Sink g.E.Sink c.args.terms.now.log
-    g.V.RoundObserver.looks l.invariant.runs.0 l.invariant.runs.1 c.args.terms.now.bounds.places c.args.terms.now.bounds.idle
+    (runs_more g.B.Reactor g.B.Link.Link (guarded_answers g.T.Turns.answers c.args.terms.now.allow.now)
+    g.T.Turns.commits g.O.Sink g.E.Sink c.args.terms.now.log
+    g.V.RoundObserver.looks l.invariant.runs.0 l.invariant.runs.1 c.args.terms.now.bounds.places
+    c.args.terms.now.bounds.idle
     c.args.terms.now.bounds.exchanges l.event_loop r.new.event_loop
     c.args.server.now.server l.server.server r.new.server.server c.args.reactor.now l.reactor r.new.reactor
     c.args.out.now l.out r.new.out c.args.faults.now l.faults r.new.faults c.args.observer.now l.observer
@@ -120,9 +132,11 @@ returns-then-not-may_go_on-clause-runs g c = (returns-then-not-may_go_on-clause-
 pub returns-clause-observed : goal.returns-clause-observed
 returns-clause-observed g c =
     let l = c.loop-round in
-    runs_over g.B.Reactor g.B.Link.Link (guarded_answers g.T.Turns.answers c.args.terms.now.allow.now) g.T.Turns.commits g.O.Sink g.E.Sink c.args.terms.now.log
+    runs_over g.B.Reactor g.B.Link.Link (guarded_answers g.T.Turns.answers c.args.terms.now.allow.now) g.T.Turns.commits
+    g.O.Sink g.E.Sink c.args.terms.now.log
     g.V.RoundObserver.looks
-    c.law_connections.ensures l.invariant.runs.0 c.args.terms.now.bounds exits.Device l.event_loop c.args.server.now.server l.server.server
+    c.law_connections.ensures l.invariant.runs.0 c.args.terms.now.bounds exits.Device l.event_loop
+    c.args.server.now.server l.server.server
     c.args.reactor.now l.reactor c.args.out.now l.out c.args.faults.now l.faults c.args.observer.now l.observer
     l.invariant.runs.2 l.invariant.begun (λ over is. inl (inr (search rules)))
 

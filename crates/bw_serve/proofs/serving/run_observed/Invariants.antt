@@ -11,8 +11,10 @@ use Rattle.bw_serve.proofs.serving.run_observed.Given as goal
 abbrev pub invariant-loop-round : goal.invariant-loop-round
 invariant-loop-round g l = record {
   runs : (last : Result (Unit {0}) NotKept) × (goes_on_after last ≡ true)
-      × Runs g.B.Reactor g.B.Link.Link (guarded_answers g.T.Turns.answers l.fn.terms.allow.now) g.T.Turns.commits g.O.Sink g.E.Sink l.fn.terms.log
-      g.V.RoundObserver.looks last l.fn.terms.bounds.places l.fn.terms.bounds.idle l.fn.terms.bounds.exchanges l.event_loop l.fn.server.server
+      × Runs g.B.Reactor g.B.Link.Link (guarded_answers g.T.Turns.answers l.fn.terms.allow.now) g.T.Turns.commits
+      g.O.Sink g.E.Sink l.fn.terms.log
+      g.V.RoundObserver.looks last l.fn.terms.bounds.places l.fn.terms.bounds.idle l.fn.terms.bounds.exchanges
+      l.event_loop l.fn.server.server
       l.server.server l.fn.reactor l.reactor l.fn.out l.out l.fn.faults l.faults l.fn.observer l.observer;
   begun : begun_of l.event_loop.connections ≤ l.fn.terms.bounds.exchanges;
   peer_slots : HasPeerSlots l.event_loop;

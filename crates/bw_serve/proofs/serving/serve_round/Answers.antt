@@ -19,7 +19,8 @@ returns-in_default-clause-shut g c = record {
   grows = grows_still g.B.Link.Link c.args.event_loop.now;
   now = 0;
   welcomes = welcomes_after g.B.Reactor 0 0 c.args.reactor.now c.wait.new.self c.wait.new.self c.args.event_loop.now
-      c.args.event_loop.now refl c.wait.ensures.admitted (welcomes_none g.B.Reactor 0 c.wait.new.self c.args.event_loop.now);
+      c.args.event_loop.now refl c.wait.ensures.admitted (welcomes_none g.B.Reactor 0 c.wait.new.self
+      c.args.event_loop.now);
   server = refl;
   printed = refl;
   logged = refl;
@@ -51,10 +52,12 @@ returns-clause-round g c =
     let at : c.now-now.result ≡ g.B.Reactor.time c.welcome.new.reactor =
     c.now-now.ensures.time ∙ sym c.welcome.ensures.time in
     let n = connection_count c.welcome.new.self.connections in
-    let turn : InTurn g.B.Link.Link (guarded_answers g.T.Turns.answers c.args.terms.now.allow.now) g.O.Sink g.E.Sink c.args.terms.now.log
+    let turn : InTurn g.B.Link.Link (guarded_answers g.T.Turns.answers c.args.terms.now.allow.now) g.O.Sink g.E.Sink
+    c.args.terms.now.log
     (g.B.Reactor.time c.welcome.new.reactor) c.args.terms.now.bounds.idle n c.welcome.new.self e.new.self
     c.args.server.now.server e.new.server.server c.args.out.now e.new.out c.args.faults.now e.new.faults =
-    subst (λ (now : ℕ). InTurn g.B.Link.Link (guarded_answers g.T.Turns.answers c.args.terms.now.allow.now) g.O.Sink g.E.Sink c.args.terms.now.log now
+    subst (λ (now : ℕ). InTurn g.B.Link.Link (guarded_answers g.T.Turns.answers c.args.terms.now.allow.now) g.O.Sink
+    g.E.Sink c.args.terms.now.log now
     c.args.terms.now.bounds.idle n c.welcome.new.self e.new.self
     c.args.server.now.server e.new.server.server c.args.out.now e.new.out c.args.faults.now e.new.faults) at
     e.ensures.in_turn in (
@@ -73,22 +76,27 @@ returns-clause-round g c =
         between = c.welcome.new.self;
         grows = c.welcome.ensures.grows;
         lets_in = subst (λ (now : ℕ). LetsIn now c.notice.new.self c.welcome.new.self) at c.welcome.ensures.lets_in;
-        welcomes = welcomes_after g.B.Reactor c.now-now.result (g.B.Reactor.time c.welcome.new.reactor) c.args.reactor.now
+        welcomes = welcomes_after g.B.Reactor c.now-now.result (g.B.Reactor.time c.welcome.new.reactor)
+            c.args.reactor.now
             c.now-now.new.self c.welcome.new.reactor c.notice.new.self c.welcome.new.self at (λ xs was.
             c.now-now.ensures.admitted xs (c.notice.ensures.admitted xs (c.wait.ensures.admitted xs was)))
             c.welcome.ensures.welcomes;
-        asks = c.in_ok-welcome.ensures.asks (c.now-now.ensures.tried 0 (c.notice.ensures.tried 0 c.in-Ok.ensures.tried));
+        asks = c.in_ok-welcome.ensures.asks (c.now-now.ensures.tried 0
+            (c.notice.ensures.tried 0 c.in-Ok.ensures.tried));
         served = e.new.self;
         mid = e.new.server.server;
         printed = e.new.out;
         logged = e.new.faults;
         in_turn = turn;
-        kept = guarded_committed g.T.Turns.answers c.args.terms.now.allow.now e.new.server.server c.commit.new.server.server
+        kept = guarded_committed g.T.Turns.answers c.args.terms.now.allow.now e.new.server.server
+            c.commit.new.server.server
             c.commit.ensures.answered c.args.server.now.server _
             (λ same. c.commit.ensures.idle (subst (λ x. g.T.Turns.committed x) (sym same) c.requires.committed))
-            (turn_advances g.B.Link.Link (guarded_answers g.T.Turns.answers c.args.terms.now.allow.now) g.O.Sink g.E.Sink c.args.terms.now.log
+            (turn_advances g.B.Link.Link (guarded_answers g.T.Turns.answers c.args.terms.now.allow.now) g.O.Sink
+            g.E.Sink c.args.terms.now.log
             (g.B.Reactor.time c.welcome.new.reactor) c.args.terms.now.bounds.idle n c.welcome.new.self e.new.self
-            c.args.server.now.server e.new.server.server c.args.out.now e.new.out c.args.faults.now e.new.faults turn).by_server;
+            c.args.server.now.server e.new.server.server c.args.out.now e.new.out c.args.faults.now e.new.faults
+            turn).by_server;
         outcome = c.commit.result;
         committed = c.commit.ensures.commits;
         withholds = c.commit.ensures.withholds;
@@ -100,8 +108,10 @@ pub returns-clause-begun : goal.returns-clause-begun
 returns-clause-begun g c =
     let e = c.serve_each in
     subst (λ (n : ℕ). n ≤ c.args.terms.now.bounds.exchanges)
-    (sym (c.commit.ensures.withholds.begun ∙ turn_begun g.B.Link.Link (guarded_answers g.T.Turns.answers c.args.terms.now.allow.now) g.O.Sink
-    g.E.Sink c.args.terms.now.log c.now-now.result c.args.terms.now.bounds.idle (connection_count c.welcome.new.self.connections) c.welcome.new.self
+    (sym (c.commit.ensures.withholds.begun ∙ turn_begun g.B.Link.Link
+    (guarded_answers g.T.Turns.answers c.args.terms.now.allow.now) g.O.Sink
+    g.E.Sink c.args.terms.now.log c.now-now.result c.args.terms.now.bounds.idle
+    (connection_count c.welcome.new.self.connections) c.welcome.new.self
     e.new.self c.args.server.now.server e.new.server.server c.args.out.now e.new.out c.args.faults.now e.new.faults
     e.ensures.in_turn))
     c.welcome.ensures.most
@@ -110,22 +120,28 @@ pub returns-clause-peer_slots : goal.returns-clause-peer_slots
 returns-clause-peer_slots g c =
     let e = c.serve_each in
     let w = c.commit.ensures.withholds in
-    let quanta = turn_peer_slots g.B.Link.Link (guarded_answers g.T.Turns.answers c.args.terms.now.allow.now) g.O.Sink g.E.Sink c.args.terms.now.log
+    let quanta = turn_peer_slots g.B.Link.Link (guarded_answers g.T.Turns.answers c.args.terms.now.allow.now) g.O.Sink
+    g.E.Sink c.args.terms.now.log
     c.now-now.result c.args.terms.now.bounds.idle
-    (connection_count c.welcome.new.self.connections) c.welcome.new.self e.new.self c.args.server.now.server e.new.server.server
+    (connection_count c.welcome.new.self.connections) c.welcome.new.self e.new.self c.args.server.now.server
+    e.new.server.server
     c.args.out.now e.new.out c.args.faults.now e.new.faults e.ensures.in_turn
     (grown_peer_slots g.B.Link.Link c.notice.new.self c.welcome.new.self c.welcome.ensures.grows
-    (grown_peer_slots g.B.Link.Link c.args.event_loop.now c.notice.new.self c.notice.ensures.stays.grows c.requires.peer_slots)) in
+    (grown_peer_slots g.B.Link.Link c.args.event_loop.now c.notice.new.self c.notice.ensures.stays.grows
+    c.requires.peer_slots)) in
     w.peer_slots_are ∙ (quanta ∙ sym w.places_are)
 
 pub commit-requires : goal.commit-requires
 commit-requires g c =
     let e = c.serve_each in
     record {
-      peer_slots = turn_peer_slots g.B.Link.Link (guarded_answers g.T.Turns.answers c.args.terms.now.allow.now) g.O.Sink g.E.Sink c.args.terms.now.log
+      peer_slots = turn_peer_slots g.B.Link.Link (guarded_answers g.T.Turns.answers c.args.terms.now.allow.now) g.O.Sink
+          g.E.Sink c.args.terms.now.log
           c.now-now.result c.args.terms.now.bounds.idle
-          (connection_count c.welcome.new.self.connections) c.welcome.new.self e.new.self c.args.server.now.server e.new.server.server
+          (connection_count c.welcome.new.self.connections) c.welcome.new.self e.new.self c.args.server.now.server
+          e.new.server.server
           c.args.out.now e.new.out c.args.faults.now e.new.faults e.ensures.in_turn
           (grown_peer_slots g.B.Link.Link c.notice.new.self c.welcome.new.self c.welcome.ensures.grows
-          (grown_peer_slots g.B.Link.Link c.args.event_loop.now c.notice.new.self c.notice.ensures.stays.grows c.requires.peer_slots));
+          (grown_peer_slots g.B.Link.Link c.args.event_loop.now c.notice.new.self c.notice.ensures.stays.grows
+          c.requires.peer_slots));
     }

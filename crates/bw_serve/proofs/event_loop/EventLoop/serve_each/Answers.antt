@@ -12,9 +12,11 @@ loop-place-preserved g c =
     record {
       places_are = s.ensures.stays.0.count ∙ l.invariant.places_are;
       peer_slots = s.ensures.peer_slots_are ∙ (l.invariant.peer_slots ∙ sym s.ensures.stays.0.count);
-      in_turn = turn_more g.L.Link (guarded_answers g.T.Turns.answers c.args.round.now.allow.now) g.O.Sink g.E.Sink c.args.round.now.log
+      in_turn = turn_more g.L.Link (guarded_answers g.T.Turns.answers c.args.round.now.allow.now) g.O.Sink g.E.Sink
+          c.args.round.now.log
           c.args.round.now.time
-          c.args.round.now.idle l.place c.args.self.now l.self s.new.self c.args.server.now.server l.server.server s.new.server.server
+          c.args.round.now.idle l.place c.args.self.now l.self s.new.self c.args.server.now.server l.server.server
+          s.new.server.server
           c.args.out.now l.out s.new.out
           c.args.faults.now l.faults s.new.faults l.invariant.in_turn s.ensures;
     }
@@ -22,7 +24,9 @@ loop-place-preserved g c =
 pub returns : goal.returns
 returns g c =
     let l = c.loop-place in
-    subst (λ m. InTurn g.L.Link (guarded_answers g.T.Turns.answers c.args.round.now.allow.now) g.O.Sink g.E.Sink c.args.round.now.log
-    c.args.round.now.time c.args.round.now.idle (connection_count c.args.self.now.connections) c.args.self.now
-    (record l.self { connections = m }) c.args.server.now.server l.server.server c.args.out.now l.out c.args.faults.now l.faults)
-    (sym c.hash_ahead.ensures) (search rules)
+    record {
+      in_turn = subst (λ m. InTurn g.L.Link (guarded_answers g.T.Turns.answers c.args.round.now.allow.now) g.O.Sink g.E.Sink
+          c.args.round.now.log c.args.round.now.time c.args.round.now.idle (connection_count c.args.self.now.connections)
+          c.args.self.now (record l.self { connections = m }) c.args.server.now.server l.server.server c.args.out.now l.out
+          c.args.faults.now l.faults) (sym c.hash_ahead.ensures) (search rules);
+    }

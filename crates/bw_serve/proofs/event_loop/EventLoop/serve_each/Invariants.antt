@@ -8,7 +8,8 @@ abbrev pub invariant-loop-place : goal.invariant-loop-place
 invariant-loop-place g l = record {
   places_are : connection_count l.self.connections ≡ connection_count l.fn.self.connections;
   peer_slots : HasPeerSlots l.self;
-  in_turn : InTurn g.L.Link (guarded_answers g.T.Turns.answers l.fn.round.allow.now) g.O.Sink g.E.Sink l.fn.round.log l.fn.round.time
+  in_turn : InTurn g.L.Link (guarded_answers g.T.Turns.answers l.fn.round.allow.now) g.O.Sink g.E.Sink l.fn.round.log
+      l.fn.round.time
       l.fn.round.idle l.place l.fn.self l.self
       l.fn.server.server l.server.server l.fn.out l.out l.fn.faults l.faults;
 }

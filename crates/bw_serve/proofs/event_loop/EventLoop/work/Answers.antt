@@ -37,7 +37,8 @@ returns g c =
           (at.address_is ∙ ap (λ x. x.address) (some_is at.peer_slot before.peer_slot (sym stands ∙ before.was)))
           by_server);
       peer_slot' = following.peer_slot';
-      sets = sets_again c.args.self.now.peer_slots.items c.swap_at.new.peer_slots.items c.swap_at-2.new.peer_slots.items c.args.place
+      sets = sets_again c.args.self.now.peer_slots.items c.swap_at.new.peer_slots.items c.swap_at-2.new.peer_slots.items
+          c.args.place
           before.peer_slot' following.peer_slot' before.sets following.sets;
       address = following.address
           ∙ (ap (λ x. x.address) (some_is following.peer_slot before.peer_slot' (sym following.was ∙ before.sets.there))
