@@ -70,8 +70,8 @@ serve_round-requires-clause-begun g c = c.loop-round.invariant.begun
 pub serve_round-requires-clause-peer_slots : goal.serve_round-requires-clause-peer_slots
 serve_round-requires-clause-peer_slots g c = c.loop-round.invariant.peer_slots
 
-pub returns-then-ended-bounds-clause-observed : goal.returns-then-ended-bounds-clause-observed
-returns-then-ended-bounds-clause-observed g c =
+pub returns-then-ended-terms-clause-observed : goal.returns-then-ended-terms-clause-observed
+returns-then-ended-terms-clause-observed g c =
     let l = c.loop-round in
     runs_over g.B.Reactor g.B.Link.Link (guarded_answers g.T.Turns.answers c.args.terms.now.allow.now) g.T.Turns.commits
     g.O.Sink g.E.Sink c.args.terms.now.log
@@ -82,8 +82,8 @@ returns-then-ended-bounds-clause-observed g c =
     l.invariant.runs.2 l.invariant.begun
     (λ over is. (all_ended c.args.terms.now.bounds.exchanges l.event_loop over is (search rules), l.invariant.failures))
 
-pub returns-then-ended-bounds-clause-runs : goal.returns-then-ended-bounds-clause-runs
-returns-then-ended-bounds-clause-runs g c = (returns-then-ended-bounds-clause-observed g c).run
+pub returns-then-ended-terms-clause-runs : goal.returns-then-ended-terms-clause-runs
+returns-then-ended-terms-clause-runs g c = (returns-then-ended-terms-clause-observed g c).run
 
 pub returns-in_default-serve_round-clause-observed : goal.returns-in_default-serve_round-clause-observed
 returns-in_default-serve_round-clause-observed g c =
