@@ -161,8 +161,10 @@ module _ {T E F : Type 0} (r : Result T E) (offset : ℕ) (bytes : List ℕ) (js
       (subst (λ (s : Bool). HoldsPending s (unwritten_at later) (before path)) (sym on) (keeps was)))
       holds
 
-  pub kept_notes : OnOk r (Notes offset bytes (noted_with (unwritten_at here) (before path)) (noted_with (unwritten_at later) (before path))) →
-      OnErr r (unwritten_at later ≡ unwritten_at here) → NotesAt offset bytes r name (noted_at all before folder) (noted_at all' after folder)
+  pub kept_notes : OnOk r (Notes offset bytes (noted_with (unwritten_at here) (before path))
+      (noted_with (unwritten_at later) (before path))) →
+      OnErr r (unwritten_at later ≡ unwritten_at here) →
+      NotesAt offset bytes r name (noted_at all before folder) (noted_at all' after folder)
   kept_notes noted failed = record {
     noted = subst (λ (o : Option (List ℕ)). OnOk r (Notes offset bytes (noted_at all before folder name) o)) (sym later_is)
         (subst (λ (o : Option (List ℕ)). OnOk r (Notes offset bytes o (noted_with (unwritten_at later) (before path)))) here_is noted);

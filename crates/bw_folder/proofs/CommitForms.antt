@@ -1,5 +1,6 @@
 -- Commits in a row, and what a commit of a name leaves.
-use Rattle.std.proofs.Common.{◌≡◌, ◌∙◌, ◌≤◌, ◌<◌, ℕ, suc, ◌∷◌, length, get_or, List, [], Bool, true, false, cond, Option, Some, None, refl, sym, ap, subst}
+use Rattle.std.proofs.Common.{◌≡◌, ◌∙◌, ◌≤◌, ◌<◌, ℕ, suc, ◌∷◌, length, get_or, List, [], Bool, true, false, cond, Option, Some, None, refl}
+use Rattle.std.proofs.Common.{sym, ap, subst}
 use Rattle.std.proofs.Common.{arith, inl, inr, ◌⊎◌, IsTrue}
 use Rattle.std.specs.Prelude.{Result, Ok, Err, OnOk, OnErr, IsSome}
 use Rattle.std.specs.Str.{bytes_eq}

@@ -78,7 +78,8 @@ kept_whole G b to sections old new left is e put = record {
   reading_is = is.reading_is;
   fits = is.fits;
   makes = λ h.
-      subst (λ (z : List ℕ). IsThere G to z old new) (named_sections b sections is) (put (assembled sections b) e (has_room b sections is) h);
+      subst (λ (z : List ℕ). IsThere G to z old new) (named_sections b sections is)
+      (put (assembled sections b) e (has_room b sections is) h);
 }
 
 -- why it isn't made is why nothing is kept

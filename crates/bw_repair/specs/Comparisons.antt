@@ -1,5 +1,6 @@
 -- Whether a file has exactly the bytes of a reader.
-use Rattle.std.specs.Prelude.{◌≡◌, ◌↔◌, ℕ, Bool, true, false, List, Option, Some, Result, Ok, Err, drop, length, take}
+use Rattle.std.specs.Prelude.{◌≡◌, ◌↔◌, ℕ, Bool, true, false, List, Option, Some, Result, Ok, Err, drop}
+use Rattle.std.specs.Prelude.{length, take}
 use Rattle.bw_repair.specs.declared.left_out.comparing.CompareFault.{CompareFault}
 use Rattle.bw_repair.specs.declared.left_out.comparing.CompareFault.TheVariants.{Read, Disk}
 

@@ -15,7 +15,8 @@ use Rattle.bw_repair.specs.Makings.{IsMade, LeavesOut}
 use Rattle.bw_repair.specs.DiskSteps.{IsStep}
 use Rattle.bw_repair.specs.ConvertTexts.{conversion_line, made_text}
 use Rattle.bw_repair.specs.declared.conversions.fault.ConvertKind.{ConvertKind}
-use Rattle.bw_repair.specs.declared.conversions.fault.ConvertKind.TheVariants.{Unread, Riff, SameForm, TooLong}
+use Rattle.bw_repair.specs.declared.conversions.fault.ConvertKind.TheVariants.{Unread, Riff, SameForm}
+use Rattle.bw_repair.specs.declared.conversions.fault.ConvertKind.TheVariants.{TooLong}
 use Rattle.bw_repair.specs.declared.conversions.fault.ConvertKind.TheVariants.{Exists, Unwritten}
 use Rattle.bw_repair.specs.declared.conversions.fault.ConvertFault.{ConvertFault}
 use Rattle.bw_repair.specs.declared.conversions.fault.ConvertError.{ConvertError}

@@ -7,7 +7,8 @@ use Rattle.bw_inspect.specs.Readings.{HasReading}
 use Rattle.bw_inspect.specs.declared.fault.InspectFault.{InspectFault}
 use Rattle.bw_repair.specs.Forms.{IsConvertible, id_of, other_of}
 use Rattle.bw_repair.specs.declared.conversions.fault.ConvertKind.{ConvertKind}
-use Rattle.bw_repair.specs.declared.conversions.fault.ConvertKind.TheVariants.{Unread, Riff, SameForm, TooLong}
+use Rattle.bw_repair.specs.declared.conversions.fault.ConvertKind.TheVariants.{Unread, Riff, SameForm}
+use Rattle.bw_repair.specs.declared.conversions.fault.ConvertKind.TheVariants.{TooLong}
 use Rattle.bw_repair.specs.declared.conversions.fault.ConvertKind.TheVariants.{Exists, Unwritten}
 use Rattle.bw_repair.specs.declared.conversions.fault.ConvertFault.{ConvertFault}
 use Rattle.bw_repair.specs.declared.conversions.fault.ConvertError.{ConvertError}

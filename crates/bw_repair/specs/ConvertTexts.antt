@@ -4,7 +4,8 @@ use Rattle.bw_console.specs.Text.{as_line}
 use Rattle.bw_inspect.specs.Hints.{file_hint}
 use Rattle.bw_repair.specs.ConvertFaults.{convert_fault_text}
 use Rattle.bw_repair.specs.declared.conversions.fault.ConvertKind.{ConvertKind}
-use Rattle.bw_repair.specs.declared.conversions.fault.ConvertKind.TheVariants.{Unread, Riff, SameForm, TooLong}
+use Rattle.bw_repair.specs.declared.conversions.fault.ConvertKind.TheVariants.{Unread, Riff, SameForm}
+use Rattle.bw_repair.specs.declared.conversions.fault.ConvertKind.TheVariants.{TooLong}
 use Rattle.bw_repair.specs.declared.conversions.fault.ConvertKind.TheVariants.{Exists, Unwritten}
 use Rattle.bw_repair.specs.declared.conversions.fault.ConvertFault.{ConvertFault}
 use Rattle.bw_repair.specs.declared.conversions.form.WideForm.{WideForm}

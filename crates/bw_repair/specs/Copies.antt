@@ -4,7 +4,8 @@ use Rattle.bw_disk.specs.declared.disk.Disk.{Ghosts}
 use Rattle.bw_inspect.specs.declared.fault.InspectKind.TheVariants.{Read}
 use Rattle.bw_repair.specs.DiskSteps.{GrowsTo}
 use Rattle.bw_repair.specs.declared.conversions.fault.ConvertKind.{ConvertKind}
-use Rattle.bw_repair.specs.declared.conversions.fault.ConvertKind.TheVariants.{Unread, Riff, SameForm, TooLong}
+use Rattle.bw_repair.specs.declared.conversions.fault.ConvertKind.TheVariants.{Unread, Riff, SameForm}
+use Rattle.bw_repair.specs.declared.conversions.fault.ConvertKind.TheVariants.{TooLong}
 use Rattle.bw_repair.specs.declared.conversions.fault.ConvertKind.TheVariants.{Exists, Unwritten}
 
 -- the next n bytes of w were read from a place on and written at it; none only at the end

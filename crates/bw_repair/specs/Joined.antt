@@ -36,4 +36,5 @@ largest_of id = if is_riff_id id then largest_riff else largest
 
 -- the chunks fit into the take's form
 abbrev pub fits_take : List ℕ → List Entry → List Entry → Bool
-fits_take id entries others = chunks_fit (largest_of id) (next_place entries - 8) (filter is_left_chunk others)
+fits_take id entries others =
+    chunks_fit (largest_of id) (next_place entries - 8) (filter is_left_chunk others)

@@ -1,5 +1,6 @@
 -- What printing all bytes of readers leaves of a writer.
-use Rattle.std.specs.Prelude.{◌≡◌, ◌⊎◌, ℕ, List, [], ◌++◌, Option, Some, None, Result, Ok, Err, take, drop, option_map}
+use Rattle.std.specs.Prelude.{◌≡◌, ◌⊎◌, ℕ, List, [], ◌++◌, Option, Some, None, Result, Ok, Err, take, drop}
+use Rattle.std.specs.Prelude.{option_map}
 use Rattle.bw_stream.specs.Moves.{Begins, Writes, one_more}
 use Rattle.bw_stream.specs.Readers.{Of}
 use Rattle.bw_stream.specs.declared.sink.Sink.{Ghosts as Writer}

@@ -19,7 +19,8 @@ use Rattle.bw_repair.specs.LeftTexts.{keep_line}
 use Rattle.bw_repair.specs.Makings.{LeavesOut}
 use Rattle.bw_repair.specs.Puttings.{IsThere}
 use Rattle.bw_repair.specs.declared.conversions.fault.ConvertKind.{ConvertKind}
-use Rattle.bw_repair.specs.declared.conversions.fault.ConvertKind.TheVariants.{Unread, Riff, SameForm, TooLong}
+use Rattle.bw_repair.specs.declared.conversions.fault.ConvertKind.TheVariants.{Unread, Riff, SameForm}
+use Rattle.bw_repair.specs.declared.conversions.fault.ConvertKind.TheVariants.{TooLong}
 use Rattle.bw_repair.specs.declared.conversions.fault.ConvertKind.TheVariants.{Exists, Unwritten}
 use Rattle.bw_repair.specs.declared.conversions.fault.ConvertFault.{ConvertFault}
 use Rattle.bw_repair.specs.declared.conversions.fault.ConvertError.{ConvertError}
@@ -79,7 +80,8 @@ module _ {D F : Type 0} (G : Ghosts D F) (file : Option (List ℕ)) (path to : L
   -- they aren't, which is reported
   pub record RefusesKeeping (old new : D) (gives_all : Bool) (did : Outcome) : Type 0 where
     pub fault : ConvertFault
-    pub right : Of file (λ b. IsKeepRefusal b fault.kind fault.offset × LeavesOfLeft G b to fault.kind old new)
+    pub right : Of file (λ b. IsKeepRefusal b fault.kind fault.offset
+        × LeavesOfLeft G b to fault.kind old new)
     pub step : IsStep G to (is_write_fault fault.kind) old new
     pub gives : gives_all ≡ true
     pub reports : IsRefusedKeeping fault did

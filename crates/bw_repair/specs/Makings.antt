@@ -7,7 +7,8 @@ use Rattle.bw_store.specs.Stores.{overwritten}
 use Rattle.bw_repair.specs.Copies.{IsCopyFault}
 use Rattle.bw_repair.specs.DiskSteps.{GrowsTo}
 use Rattle.bw_repair.specs.declared.conversions.fault.ConvertKind.{ConvertKind}
-use Rattle.bw_repair.specs.declared.conversions.fault.ConvertKind.TheVariants.{Unread, Riff, SameForm, TooLong}
+use Rattle.bw_repair.specs.declared.conversions.fault.ConvertKind.TheVariants.{Unread, Riff, SameForm}
+use Rattle.bw_repair.specs.declared.conversions.fault.ConvertKind.TheVariants.{TooLong}
 use Rattle.bw_repair.specs.declared.conversions.fault.ConvertKind.TheVariants.{Exists, Unwritten}
 use Rattle.bw_repair.specs.declared.conversions.fault.ConvertFault.{ConvertFault}
 

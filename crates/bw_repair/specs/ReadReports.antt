@@ -6,7 +6,8 @@ use Rattle.bw_inspect.specs.declared.fault.InspectKind.TheVariants.{Memory}
 use Rattle.bw_inspect.specs.declared.report.Report.{Report}
 use Rattle.bw_repair.specs.ConvertFaults.{IsFaultOfFile}
 use Rattle.bw_repair.specs.declared.conversions.fault.ConvertKind.{ConvertKind}
-use Rattle.bw_repair.specs.declared.conversions.fault.ConvertKind.TheVariants.{Unread, Riff, SameForm, TooLong}
+use Rattle.bw_repair.specs.declared.conversions.fault.ConvertKind.TheVariants.{Unread, Riff, SameForm}
+use Rattle.bw_repair.specs.declared.conversions.fault.ConvertKind.TheVariants.{TooLong}
 use Rattle.bw_repair.specs.declared.conversions.fault.ConvertKind.TheVariants.{Exists, Unwritten}
 use Rattle.bw_repair.specs.declared.conversions.fault.ConvertFault.{ConvertFault}
 use Rattle.bw_repair.specs.declared.conversions.fault.ConvertError.{ConvertError}

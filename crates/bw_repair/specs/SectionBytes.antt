@@ -15,7 +15,8 @@ assembled (s ∷ rest) b = s.front ++ (padded_range s.gap s.size b ++ assembled 
 
 -- the same with these bytes as the first one's front
 abbrev pub assembled_from : List ℕ → ℕ → ℕ → List Section → List ℕ → List ℕ
-assembled_from front gap size rest b = front ++ (padded_range gap size b ++ assembled rest (drop (gap + size) b))
+assembled_from front gap size rest b =
+    front ++ (padded_range gap size b ++ assembled rest (drop (gap + size) b))
 
 -- what is still to come of sections, of which the file's reader has this left
 abbrev pub sections_left : {R : Type 0} → Sections R → Option (List ℕ) → Option (List ℕ)

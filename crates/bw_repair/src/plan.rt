@@ -5,7 +5,8 @@ ghost use Rattle.bw_console.specs.Prints.{failures_if};
 ghost use Rattle.bw_model.specs.Report.{frames_of};
 ghost use Rattle.bw_repair.specs.DataHeads.{IsDataHead};
 ghost use Rattle.bw_repair.specs.Near.{IsNear};
-ghost use Rattle.bw_repair.specs.Soundnesses.{HasNearPlace, IsSoundness, RefusesPlan, StandsAsItIs, is_plan_well};
+ghost use Rattle.bw_repair.specs.Soundnesses.{HasNearPlace, IsSoundness, RefusesPlan, StandsAsItIs};
+ghost use Rattle.bw_repair.specs.Soundnesses.{is_plan_well};
 
 use crate::{DataHead, RepairFault, Sizes, check, decide, find_data};
 use bw_inspect::{InspectFault, Report, inspect};

@@ -9,7 +9,8 @@ ghost use Rattle.bw_inspect.specs.Faults.{bytes_fault, counted, is_failed_read};
 ghost use Rattle.bw_inspect.specs.Places.{AtPlace};
 ghost use Rattle.bw_repair.specs.DataHeads.{FindsData, LacksData, entry_of_head, is_riff_wave};
 ghost use Rattle.bw_repair.specs.Near.{AreNear};
-ghost use Rattle.bw_repair.specs.Steps.{IsOneChunkOn, HaltsAt, PassesAt, RefusesChunk, StepsTo, StopsAt, WalksTo};
+ghost use Rattle.bw_repair.specs.Steps.{IsOneChunkOn, HaltsAt, PassesAt, RefusesChunk, StepsTo, StopsAt};
+ghost use Rattle.bw_repair.specs.Steps.{WalksTo};
 
 use bw_inspect::{InspectFault, InspectKind, read_at, skip_at};
 use bw_model::{read_id, read_u16, read_u32};

@@ -1,5 +1,6 @@
 //! What `repair` prints and reports.
-ghost use Rattle.std.specs.Prelude.{◌≡◌, ◌++◌, ◌+◌, ◌^◌, ◌<◌, ◌≤◌, length, codes, IfOk, List, ℕ, string_bytes};
+ghost use Rattle.std.specs.Prelude.{◌≡◌, ◌++◌, ◌+◌, ◌^◌, ◌<◌, ◌≤◌, length, codes, IfOk, List, ℕ};
+ghost use Rattle.std.specs.Prelude.{string_bytes};
 ghost use Rattle.bw_repair.specs.Texts.{plan_text as text_of_plan, repair_line as line_of_repair};
 ghost use Rattle.bw_repair.specs.Texts.{repair_hint, size_line, sound_text as text_of_sound};
 ghost use Rattle.bw_repair.specs.Texts.{unwritten_text};

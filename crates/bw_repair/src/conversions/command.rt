@@ -39,7 +39,8 @@ pub fn convert_file<F: RecordingFiles, D: Volume, W: Sink, E: Sink>(
 ) -> Exit
     // What is made is new, and has the bytes of the file but for the first four; no file is changed.
     ensures { (did : Outcome) × (did.exit ≡ result) × (gives_all : Bool)
-        × IsConversion D.Disk (F.file_at files.old path.now) to.now form path.now disk.old disk.new gives_all did
+        × IsConversion D.Disk (F.file_at files.old path.now) to.now form path.now disk.old disk.new
+        gives_all did
         × (F.failures files.new ≡ failures_if gives_all (F.failures files.old))
         × HasWritten W.Sink E.Sink did out.old out.new faults.old faults.new }
 {

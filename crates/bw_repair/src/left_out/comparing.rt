@@ -1,5 +1,6 @@
 //! Whether a file has exactly the bytes of a reader.
-ghost use Rattle.std.specs.Prelude.{◌≡◌, ◌↔◌, ◌+◌, ◌^◌, ◌<◌, ◌≤◌, IfOk, IsTrue, true, drop, is_err, length, option_map};
+ghost use Rattle.std.specs.Prelude.{◌≡◌, ◌↔◌, ◌+◌, ◌^◌, ◌<◌, ◌≤◌, IfOk, IsTrue, true, drop, is_err, length};
+ghost use Rattle.std.specs.Prelude.{option_map};
 ghost use Rattle.bw_store.specs.Stores.{Counts};
 ghost use Rattle.bw_stream.specs.Readers.{Of};
 ghost use Rattle.bw_disk.specs.DiskSteps.{StaysWhole};

@@ -24,7 +24,8 @@ pub(crate) fn file_sections(
     chunks: &[ListedChunk],
 ) -> Result<Vec<Section>, ConvertFault>
     ensures fit { IfOk result (λ v. fits_left chunks.now ≡ true) }
-    ensures ok { IfOk result (λ v. v.items ≡ left_sections (filter is_kept_chunk chunks.now) (left_size chunks.now)) }
+    ensures ok { IfOk result (λ v. v.items
+        ≡ left_sections (filter is_kept_chunk chunks.now) (left_size chunks.now)) }
     ensures err { IfErr result (λ f. IsUnfit (fits_left chunks.now ≡ false) f) }
 {
     let Some(size) = total_len(chunks, true, 12, LARGEST_RIFF) else {

@@ -1,6 +1,7 @@
 //! All bytes of a reader are printed, in pieces.
 ghost use Rattle.std.specs.Prelude.{◌≡◌, ◌≤◌, ◌<◌, length, IfErr, IfOk};
-ghost use Rattle.bw_repair.specs.JoinedPrints.{PrintsBytes, PrintsAndFlushes, PrintsPiece, StopsPrint, both_left};
+ghost use Rattle.bw_repair.specs.JoinedPrints.{PrintsBytes, PrintsAndFlushes, PrintsPiece, StopsPrint};
+ghost use Rattle.bw_repair.specs.JoinedPrints.{both_left};
 
 use bw_stream::{Sink, Source, write_all};
 
@@ -46,7 +47,8 @@ fn print_piece<R: Source, W: Sink>(
     place: u64,
 ) -> Result<usize, PrintFault>
     requires room { 0 < length piece.old }
-    ensures ok { IfOk result (λ n. PrintsPiece W.Sink (R.left reader.old) n (R.left reader.new) out.old out.new) }
+    ensures ok { IfOk result (λ n.
+        PrintsPiece W.Sink (R.left reader.old) n (R.left reader.new) out.old out.new) }
     ensures err { IfErr result (λ f. StopsPrint W.Sink (R.left reader.old) f out.old out.new) }
     ensures within { IfOk result (λ n. n ≤ length piece.old) }
     ensures room { length piece.new ≡ length piece.old }
@@ -69,7 +71,8 @@ pub(crate) fn print_both<R: Source, S: Source, W: Sink>(
     second: &mut S,
     out: &mut W,
 ) -> Result<(), PrintFault>
-    ensures { PrintsAndFlushes W.Sink (both_left (R.left first.old) (S.left second.old)) result out.old out.new }
+    ensures { PrintsAndFlushes W.Sink (both_left (R.left first.old) (S.left second.old)) result
+        out.old out.new }
 {
     match print_in_turn(first, second, out) {
         Ok(()) => match out.flush() {

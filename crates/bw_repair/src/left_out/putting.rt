@@ -23,7 +23,8 @@ pub(crate) fn put_file<R: Source + Drop, D: Volume>(
     to: &str,
     id: [u8; 4],
 ) -> Result<(), ConvertFault>
-    ensures ok { OnOk result (Of (R.left reader) (λ w. 4 ≤ length w → IsPut D.Disk to.now w id disk.old disk.new)) }
+    ensures ok { OnOk result (Of (R.left reader) (λ w.
+        4 ≤ length w → IsPut D.Disk to.now w id disk.old disk.new)) }
     ensures err { IfErr result (λ f. Of (R.left reader) (λ w. 4 ≤ length w →
         StopsPutting D.Disk to.now w id f disk.old disk.new)) }
     ensures step { IsStep D.Disk to.now (is_disk_stopped result) disk.old disk.new }

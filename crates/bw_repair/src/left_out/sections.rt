@@ -1,5 +1,6 @@
 //! Sections of a file, one after the other.
-ghost use Rattle.std.specs.Prelude.{◌≡◌, ◌≢◌, ◌≤◌, ◌<◌, [], length, IfOk, OnOk, OnErr, Some, None, List, ℕ, true, false, IsTrue};
+ghost use Rattle.std.specs.Prelude.{◌≡◌, ◌≢◌, ◌≤◌, ◌<◌, [], length, IfOk, OnOk, OnErr, Some, None, List, ℕ};
+ghost use Rattle.std.specs.Prelude.{true, false, IsTrue};
 ghost use Rattle.bw_stream.specs.Moves.{Keeps, Reads};
 ghost use Rattle.bw_stream.specs.Readers.{Of};
 ghost use Rattle.bw_repair.specs.SectionBytes.{assembled, sections_left};
@@ -22,7 +23,8 @@ pub(crate) struct Sections<'a, R> {
 impl<'a, R: Source> Sections<'a, R> {
     /// These sections of a file whose reader is at its start.
     pub(crate) fn new(inner: R, rest: &'a [Section]) -> Sections<'a, R>
-        ensures { Of (R.left inner) (λ b. sections_left result (R.left result.inner) ≡ Some (assembled rest.now b)) }
+        ensures { Of (R.left inner) (λ b.
+            sections_left result (R.left result.inner) ≡ Some (assembled rest.now b)) }
     {
         Sections {
             inner,
@@ -39,7 +41,8 @@ impl<'a, R: Source> Sections<'a, R> {
     /// `IoFailed` if the reader failed, or the file ends before a section does.
     pub(crate) fn read(&mut self, buf: &mut [u8]) -> Result<usize, IoFailed>
         ensures within { IfOk result (λ n. n ≤ length buf.old) }
-        ensures ok { IfOk result (λ n. Reads (sections_left self.old (R.left self.old.inner)) (length buf.old) n
+        ensures ok { IfOk result (λ n.
+            Reads (sections_left self.old (R.left self.old.inner)) (length buf.old) n
             buf.new (sections_left self.new (R.left self.new.inner))) }
         ensures err { OnErr result (Keeps (sections_left self.old (R.left self.old.inner))
             (sections_left self.new (R.left self.new.inner))) }
@@ -63,8 +66,8 @@ impl<'a, R: Source> Sections<'a, R> {
             (sections_left self.new (R.left self.new.inner)) }
         ensures there { OnOk result (self.new.gap ≡ 0) }
         ensures more { IfOk result (λ more. IsTrue more → self.new.front.now ≡ [] → 0 < self.new.size) }
-        ensures none { IfOk result (λ more. more ≡ false → Keeps (sections_left self.new (R.left self.new.inner))
-            (Some [])) }
+        ensures none { IfOk result (λ more. more ≡ false →
+            Keeps (sections_left self.new (R.left self.new.inner)) (Some [])) }
     {
         self.reach()?;
         while self.front.is_empty() && self.size == 0 {
@@ -138,7 +141,8 @@ impl<'a, R: Source> Sections<'a, R> {
         requires gap { self.old.gap ≡ 0 }
         requires size { 0 < self.old.size }
         ensures within { IfOk result (λ n. n ≤ length buf.old) }
-        ensures ok { IfOk result (λ n. Reads (sections_left self.old (R.left self.old.inner)) (length buf.old) n
+        ensures ok { IfOk result (λ n.
+            Reads (sections_left self.old (R.left self.old.inner)) (length buf.old) n
             buf.new (sections_left self.new (R.left self.new.inner))) }
         ensures err { OnErr result (Keeps (sections_left self.old (R.left self.old.inner))
             (sections_left self.new (R.left self.new.inner))) }

@@ -9,4 +9,6 @@ returns-clause-stays g c = λ honest n same was.
     sync_stays c.sync_file.result (g.D.Disk.path_of c.in-Some.file) (g.D.Disk.contents c.open.new.self)
     (g.D.Disk.synced c.open.new.self) (g.D.Disk.contents c.sync_file.new.disk) (g.D.Disk.synced c.sync_file.new.disk)
     (c.sync_file.ensures.synced still) n (c.sync_file.ensures.contents still n)
-    (λ some. c.open.ensures.synced honest n ∙ was (subst (λ (o : Option (List ℕ)). IsSome o) (c.open.ensures.contents honest n) some) ∙ sym (c.open.ensures.contents honest n))
+    (λ some. c.open.ensures.synced honest n
+    ∙ was (subst (λ (o : Option (List ℕ)). IsSome o) (c.open.ensures.contents honest n) some)
+    ∙ sym (c.open.ensures.contents honest n))

@@ -145,7 +145,8 @@ invariant_of-self-2 g c =
           let h : IsTrue (g.D.Disk.honest self.disk) = subst IsTrue call.ensures.honest honest in
           let path : g.D.Disk.path_of journal.file ≡ journal_path folder name =
           path_there g.D.Disk folder name items place journal pl (self.paths h) in
-          let others : KeepsOthers before after (journal_path folder name) = subst (KeepsOthers before after) path (call.ensures.others h) in
+          let others : KeepsOthers before after (journal_path folder name) =
+          subst (KeepsOthers before after) path (call.ensures.others h) in
           let written : OnOk call.result (Written (notes_at before folder name) p.place p.bytes (notes_at after folder name)) =
           subst (λ (q : List ℕ). OnOk call.result (Written (before q) p.place p.bytes (after q))) path
           (subst (λ (x : UnwrittenNotes). OnOk call.result (Written (before (g.D.Disk.path_of journal.file)) x.place x.bytes

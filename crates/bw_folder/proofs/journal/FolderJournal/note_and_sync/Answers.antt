@@ -1,4 +1,5 @@
-use Rattle.std.proofs.Common.{rules, ◌≡◌, ◌∙◌, true, false, inl, sym, subst, ap, List, ℕ, Bool, Option, IsTrue, IsSome, OnOk, OnErr, Result, Ok, Err}
+use Rattle.std.proofs.Common.{rules, ◌≡◌, ◌∙◌, true, false, inl, sym, subst, ap, List, ℕ, Bool, Option, IsTrue, IsSome, OnOk, OnErr, Result}
+use Rattle.std.proofs.Common.{Ok, Err}
 use Rattle.std.proofs.Common.{string_bytes}
 use Rattle.std.specs.Prelude.{IsErr}
 use Rattle.bw_folder.specs.Journals.{journal_path, existence_of}

@@ -27,7 +27,8 @@ returns-clause-pending g c =
 pub returns-clause-noted : goal.returns-clause-noted
 returns-clause-noted g c = λ honest.
     let items = c.args.self.now.journals.items in
-    let first : position (λ (x : OpenJournal g.row.D-File.Denot). bytes_eq x.name c.args.name.now) items ≡ Some c.in-Some.place = search rules in
+    let first : position (λ (x : OpenJournal g.row.D-File.Denot). bytes_eq x.name c.args.name.now) items
+    ≡ Some c.in-Some.place = search rules in
     let pl = place_of c.args.name.now items c.in-Some.place c.index_mut-journal.result.now c.index_mut-journal.ensures.value first in
     let path = path_there g.D.Disk (string_bytes c.args.self.now.folder) c.args.name.now items c.in-Some.place
     c.index_mut-journal.result.now pl (c.args.self.now.paths honest) in
@@ -40,7 +41,8 @@ returns-clause-noted g c = λ honest.
 pub returns-clause-failed : goal.returns-clause-failed
 returns-clause-failed g c = λ honest.
     let items = c.args.self.now.journals.items in
-    let first : position (λ (x : OpenJournal g.row.D-File.Denot). bytes_eq x.name c.args.name.now) items ≡ Some c.in-Some.place = search rules in
+    let first : position (λ (x : OpenJournal g.row.D-File.Denot). bytes_eq x.name c.args.name.now) items
+    ≡ Some c.in-Some.place = search rules in
     let pl = place_of c.args.name.now items c.in-Some.place c.index_mut-journal.result.now c.index_mut-journal.ensures.value first in
     let path = path_there g.D.Disk (string_bytes c.args.self.now.folder) c.args.name.now items c.in-Some.place
     c.index_mut-journal.result.now pl (c.args.self.now.paths honest) in
@@ -55,7 +57,8 @@ invariant_of-self-2 g c =
     let self = c.args.self.now in
     let folder : List ℕ = string_bytes self.folder in
     let items = self.journals.items in
-    let first : position (λ (x : OpenJournal g.row.D-File.Denot). bytes_eq x.name c.args.name.now) items ≡ Some c.in-Some.place = search rules in
+    let first : position (λ (x : OpenJournal g.row.D-File.Denot). bytes_eq x.name c.args.name.now) items
+    ≡ Some c.in-Some.place = search rules in
     let pl = place_of c.args.name.now items c.in-Some.place c.index_mut-journal.result.now c.index_mut-journal.ensures.value first in
     record {
       paths = λ honest.

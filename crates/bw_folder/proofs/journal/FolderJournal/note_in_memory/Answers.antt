@@ -22,7 +22,8 @@ returns-clause-notes g c = λ honest.
     let here = c.index_mut.result.now in
     let later = c.keep_note.new.journal in
     let before = g.D.Disk.contents self.disk in
-    let first : position (λ (x : OpenJournal g.row.D-File.Denot). bytes_eq x.name c.args.name.now) items ≡ Some c.in-Some.place = search rules in
+    let first : position (λ (x : OpenJournal g.row.D-File.Denot). bytes_eq x.name c.args.name.now) items
+    ≡ Some c.in-Some.place = search rules in
     let pl = place_of c.args.name.now items c.in-Some.place here c.index_mut.ensures.value first in
     let path = path_there g.D.Disk (string_bytes self.folder) c.args.name.now items c.in-Some.place here pl (self.paths honest) in
     let holds : HoldsPending true (unwritten_at here) (before (g.D.Disk.path_of here.file)) =
@@ -40,7 +41,8 @@ pub returns-clause-writes : goal.returns-clause-writes
 returns-clause-writes g c = λ writes.
     let self = c.args.self.now in
     let items = self.journals.items in
-    let first : position (λ (x : OpenJournal g.row.D-File.Denot). bytes_eq x.name c.args.name.now) items ≡ Some c.in-Some.place = search rules in
+    let first : position (λ (x : OpenJournal g.row.D-File.Denot). bytes_eq x.name c.args.name.now) items
+    ≡ Some c.in-Some.place = search rules in
     let pl = place_of c.args.name.now items c.in-Some.place c.index_mut.result.now c.index_mut.ensures.value first in
     let now = now_pending c.keep_note.result c.args.offset c.args.bytes.now items (string_bytes self.folder) c.args.name.now c.in-Some.place
     c.index_mut.result.now c.keep_note.new.journal (g.D.Disk.contents self.disk) (g.D.Disk.contents self.disk) pl c.keep_note.ensures.name
@@ -53,7 +55,8 @@ invariant_of-self-2 g c =
     let items = self.journals.items in
     let here = c.index_mut.result.now in
     let later = c.keep_note.new.journal in
-    let first : position (λ (x : OpenJournal g.row.D-File.Denot). bytes_eq x.name c.args.name.now) items ≡ Some c.in-Some.place = search rules in
+    let first : position (λ (x : OpenJournal g.row.D-File.Denot). bytes_eq x.name c.args.name.now) items
+    ≡ Some c.in-Some.place = search rules in
     let pl = place_of c.args.name.now items c.in-Some.place here c.index_mut.ensures.value first in
     record {
       paths = λ honest.

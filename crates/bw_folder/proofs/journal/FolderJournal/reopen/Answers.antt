@@ -1,4 +1,5 @@
-use Rattle.std.proofs.Common.{rules, arith, ◌≡◌, ◌∙◌, ◌+◌, ◌≤◌, ap, sym, subst, refl, List, [], ◌∷◌, ◌++◌, ℕ, Bool, false, is_some, string_bytes, IsTrue}
+use Rattle.std.proofs.Common.{rules, arith, ◌≡◌, ◌∙◌, ◌+◌, ◌≤◌, ap, sym, subst, refl, List, [], ◌∷◌, ◌++◌, ℕ, Bool, false, is_some}
+use Rattle.std.proofs.Common.{string_bytes, IsTrue}
 use Rattle.bw_folder.specs.Folders.{take_path}
 use Rattle.bw_folder.specs.Journals.{existences, existence_of, header_at, journal_path}
 use Rattle.bw_folder.proofs.HeaderKeeping.{header_adopted}

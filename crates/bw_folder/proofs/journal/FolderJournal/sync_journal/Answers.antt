@@ -23,7 +23,8 @@ returns-clause-pending g c =
 pub returns-clause-marked : goal.returns-clause-marked
 returns-clause-marked g c =
     let items = c.args.self.now.journals.items in
-    let first : position (λ (x : OpenJournal g.row.D-File.Denot). bytes_eq x.name c.args.name.now) items ≡ Some c.in-Some.place = search rules in
+    let first : position (λ (x : OpenJournal g.row.D-File.Denot). bytes_eq x.name c.args.name.now) items
+    ≡ Some c.in-Some.place = search rules in
     let pl = place_of c.args.name.now items c.in-Some.place c.index_mut.result.now c.index_mut.ensures.value first in
     subst (λ (n : List ℕ). (c.sync_begun.new.failed_sync ≡ c.args.self.now.failed_sync) ⊎ (c.sync_begun.new.failed_sync ≡ Some n))
     pl.named
@@ -33,7 +34,8 @@ returns-clause-marked g c =
 pub returns-clause-synced : goal.returns-clause-synced
 returns-clause-synced g c = λ honest.
     let items = c.args.self.now.journals.items in
-    let first : position (λ (x : OpenJournal g.row.D-File.Denot). bytes_eq x.name c.args.name.now) items ≡ Some c.in-Some.place = search rules in
+    let first : position (λ (x : OpenJournal g.row.D-File.Denot). bytes_eq x.name c.args.name.now) items
+    ≡ Some c.in-Some.place = search rules in
     let pl = place_of c.args.name.now items c.in-Some.place c.index_mut.result.now c.index_mut.ensures.value first in
     subst (λ (p : List ℕ). OnOk c.sync_begun.result
     (IsSyncedAt (g.D.Disk.contents c.sync_begun.new.disk) (g.D.Disk.synced c.sync_begun.new.disk) p))
@@ -45,7 +47,8 @@ pub invariant_of-self-2 : goal.invariant_of-self-2
 invariant_of-self-2 g c =
     let self = c.args.self.now in
     let items = self.journals.items in
-    let first : position (λ (x : OpenJournal g.row.D-File.Denot). bytes_eq x.name c.args.name.now) items ≡ Some c.in-Some.place = search rules in
+    let first : position (λ (x : OpenJournal g.row.D-File.Denot). bytes_eq x.name c.args.name.now) items
+    ≡ Some c.in-Some.place = search rules in
     let pl = place_of c.args.name.now items c.in-Some.place c.index_mut.result.now c.index_mut.ensures.value first in
     record {
       paths = λ honest.

@@ -30,7 +30,8 @@ returns-clause-pending g c =
 pub returns-clause-marked : goal.returns-clause-marked
 returns-clause-marked g c =
     let items = c.args.self.now.journals.items in
-    let first : position (λ (x : OpenJournal g.row.D-File.Denot). bytes_eq x.name c.args.name.now) items ≡ Some c.in-Some.place = search rules in
+    let first : position (λ (x : OpenJournal g.row.D-File.Denot). bytes_eq x.name c.args.name.now) items
+    ≡ Some c.in-Some.place = search rules in
     let pl = place_of c.args.name.now items c.in-Some.place c.index_mut.result.now c.index_mut.ensures.value first in
     subst (λ (n : List ℕ). (c.sync_both-answer.new.failed_sync ≡ c.args.self.now.failed_sync)
     ⊎ (c.sync_both-answer.new.failed_sync ≡ Some n))
@@ -51,7 +52,8 @@ invariant_of-self-2 g c =
     let self = c.args.self.now in
     let call = c.sync_both-answer in
     let items = self.journals.items in
-    let first : position (λ (x : OpenJournal g.row.D-File.Denot). bytes_eq x.name c.args.name.now) items ≡ Some c.in-Some.place = search rules in
+    let first : position (λ (x : OpenJournal g.row.D-File.Denot). bytes_eq x.name c.args.name.now) items
+    ≡ Some c.in-Some.place = search rules in
     let pl = place_of c.args.name.now items c.in-Some.place c.index_mut.result.now c.index_mut.ensures.value first in
     record {
       paths = λ honest.
