@@ -3,10 +3,11 @@ use bw_disk::Volume;
 use bw_live::{GrowingFiles, Marking};
 use bw_operators::StatusSetup;
 use bw_ports::{
-    EditedFiles, FileKinds, FolderLocks, ListenerSetup, PacedNetwork, Pause, ReceiptKeeping,
-    SpoolKeeping, StateKeeping, System, Watch,
+    EditedFiles, FileKinds, FolderLocks, ListenerSetup, Network, PacedNetwork, Pause,
+    ReceiptKeeping, SpoolKeeping, StateKeeping, System, Watch,
 };
 use bw_progress::{BatchPart, UploadWatch};
+use bw_send_file::SendingSides;
 use bw_serve::{Opens, ServeRules};
 use bw_stream::{Sink, Source};
 use bw_takes::ScreenStyle;
@@ -83,6 +84,16 @@ pub struct Outside<X: Environment> {
     pub started: Option<u64>,
     /// Shows the lifetimes that `X` names: the prover wants them in a field.
     pub environment: PhantomData<X>,
+}
+
+impl<X: Environment> SendingSides for Outside<X> {
+    type Pause = X::Pause;
+
+    type Dial = <X::Network as Network>::Dial;
+
+    type Output = X::Output;
+
+    type Diagnostics = X::Diagnostics;
 }
 
 /// Who is shown what a sender does.

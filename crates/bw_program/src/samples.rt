@@ -18,7 +18,10 @@ use bw_plan::Pcm;
 use bw_ports::{PacedNetwork, Purpose, SpoolKeeping, StateKeeping, keep_unless_done};
 use bw_progress::{Extent, SamplesSent, UploadWatch};
 use bw_recorder::RecordingFile;
-use bw_send_file::{PcmFile, Recorder, follow_recording, follow_samples, send_samples};
+use bw_send_file::{
+    FollowedJob, GrowingJob, PcmFile, PcmJob, Recorder, Way, follow_recording, follow_samples,
+    send_samples,
+};
 use bw_upload::Observer;
 use std::alloc::Global;
 
@@ -155,27 +158,32 @@ fn send_set<X: Environment, G: Observer>(
     let mut dial = network.dial_paced(sender.connect, Some(sender.timeout), sender.rate);
     let file = pcm_file_of(sender, settings);
     let recorder = recorder_of(sender);
+    let way = Way::<Outside<X>> {
+        pause,
+        dial: &mut dial,
+        alloc,
+    };
     if sender.pcm.in_header {
-        return follow_recording(
-            alloc,
-            &recorder,
-            &file.file,
-            until_of(sender),
-            files,
-            pause,
-            &mut dial,
-            observer,
-            out,
-            faults,
-        );
+        let job = GrowingJob {
+            recorder,
+            file: file.file,
+            until: until_of(sender),
+        };
+        return follow_recording(&job, files, way, observer, out, faults);
     }
     match ending_of(sender) {
-        Ending::Awaited(until) => follow_samples(
-            alloc, &recorder, &file, until, files, pause, &mut dial, observer, out, faults,
-        ),
-        Ending::Past => send_samples(
-            alloc, &recorder, &file, files, pause, &mut dial, observer, out, faults,
-        ),
+        Ending::Awaited(until) => {
+            let job = FollowedJob {
+                recorder,
+                file,
+                until,
+            };
+            follow_samples(&job, files, way, observer, out, faults)
+        }
+        Ending::Past => {
+            let job = PcmJob { recorder, file };
+            send_samples(&job, files, way, observer, out, faults)
+        }
     }
 }
 

@@ -10,7 +10,7 @@ use bw_console::print::give_up;
 use bw_console::{Exit, Fault};
 use bw_ports::{PacedNetwork, RecordingFiles, StateKeeping};
 use bw_progress::UploadWatch;
-use bw_send_file::{Job, Recorder, StatePlace, send_file, send_file_on};
+use bw_send_file::{FileJob, Job, KeptFiles, Recorder, StatePlace, Way, send_file, send_file_on};
 use bw_upload::Observer;
 use std::alloc::Global;
 
@@ -72,7 +72,6 @@ fn send_kept<X: Environment, G: Observer>(
     };
     let mut links = network.dial_paced(sender.connect, Some(sender.timeout), sender.rate);
     let mut states = files.states();
-    let mut stopwatch = files.stopwatch();
     let job = Job {
         recorder: recorder_of(sender),
         file: recording_of(&sender.source),
@@ -81,18 +80,16 @@ fn send_kept<X: Environment, G: Observer>(
             address: address.as_str(),
         },
     };
-    send_file_on(
-        alloc,
-        &job,
+    let kept = KeptFiles {
         files,
-        &mut states,
-        &mut stopwatch,
+        states: &mut states,
+    };
+    let way = Way::<Outside<X>> {
         pause,
-        &mut links,
-        observer,
-        out,
-        faults,
-    )
+        dial: &mut links,
+        alloc,
+    };
+    send_file_on(&job, kept, way, observer, out, faults)
 }
 
 /// Sends the recording without a state.
@@ -114,18 +111,16 @@ fn send_new<X: Environment, G: Observer>(
         ..
     } = outside;
     let mut dial = network.dial_paced(sender.connect, Some(sender.timeout), sender.rate);
-    let file = recording_of(&sender.source);
-    send_file(
-        alloc,
-        &recorder_of(sender),
-        &file,
-        files,
+    let job = FileJob {
+        recorder: recorder_of(sender),
+        file: recording_of(&sender.source),
+    };
+    let way = Way::<Outside<X>> {
         pause,
-        &mut dial,
-        observer,
-        out,
-        faults,
-    )
+        dial: &mut dial,
+        alloc,
+    };
+    send_file(&job, files, way, observer, out, faults)
 }
 
 /// The recorder that the command line asks for.

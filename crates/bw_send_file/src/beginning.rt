@@ -19,10 +19,10 @@ use crate::reports::report_unkept;
 use crate::resumed_header::read_header;
 use crate::resumed_job::Job;
 use crate::starting::begin_at;
+use crate::way::SendingSides;
 use bw_console::Exit;
 use bw_plan::Options;
-use bw_ports::{Dial, FileStamp, Pause, RecordingFiles, StateFiles, settled_line};
-use bw_stream::Sink;
+use bw_ports::{FileStamp, RecordingFiles, StateFiles, settled_line};
 use bw_upload::Feed;
 use std::alloc::{AllocError, Global};
 use std::io;
@@ -38,48 +38,61 @@ pub(crate) struct Beginning<L> {
     pub(crate) stamp: FileStamp,
 }
 
+/// A recording that is to be sent from where its state says.
+#[derive(Clone, Copy)]
+pub(crate) struct Asked<'a> {
+    pub(crate) alloc: Global,
+    pub(crate) job: Job<'a>,
+    pub(crate) options: &'a Options,
+}
+
 /// Reads the state, asks the server, and opens the state's file to be written on.
 ///
 /// # Errors
 /// How the command ends, if nothing can be sent: why is reported.
-pub(crate) fn begin<F: RecordingFiles, B: StateFiles, P: Pause, D: Dial, E: Sink>(
-    alloc: Global,
-    job: &Job<'_>,
-    options: &Options,
+pub(crate) fn begin<F: RecordingFiles, B: StateFiles, X: SendingSides>(
+    asked: &Asked<'_>,
     files: &mut F,
     states: &mut B,
-    pause: &mut P,
-    dial: &mut D,
-    faults: &mut E,
+    pause: &mut X::Pause,
+    dial: &mut X::Dial,
+    faults: &mut X::Diagnostics,
 ) -> Result<Beginning<B::Log>, Exit>
     ensures range { IfOk result (λ x. x.count ≤ most_settled) }
     ensures stamp { IfOk result (λ x. (now : StampValue) →
-        F.stamp_at files.old job.now.file.path.now ≡ Some now → x.stamp ≡ now) }
+        F.stamp_at files.old asked.now.job.file.path.now ≡ Some now → x.stamp ≡ now) }
     ensures files { F.file_at files.new ≡ F.file_at files.old }
     ensures stamps { F.stamp_at files.new ≡ F.stamp_at files.old }
     ensures ok { IfOk result (λ x. (began : Print)
         × BeginsState (sending_side ⟦<PlanFeed<F::File, F::Stamped> as Feed>⟧
-        (LooksAt F.Stamped.Stamped) P.Pause D.Dial D.Reader.Source D.Writer.Sink) job.now options.now
-        (outside_by F.RecordingFiles B.StateFiles job.now files.old states.old states.new) x.count
+        (LooksAt F.Stamped.Stamped) X.Pause.Pause X.Dial.Dial X.Dial.Reader.Source X.Dial.Writer.Sink)
+        asked.now.job asked.now.options.now
+        (outside_by F.RecordingFiles B.StateFiles asked.now.job files.old states.old states.new) x.count
         (B.Log.written x.log) (ways pause.old dial.old) (ways pause.new dial.new) began
         × (F.failures files.new ≡ F.failures files.old) × (B.failures states.new ≡ B.failures states.old)
-        × IsPrint E.Sink began faults.old faults.new) }
+        × IsPrint X.Diagnostics.Sink began faults.old faults.new) }
     ensures err { IfErr result (λ exit. (did : Continuation) × (did.exit ≡ exit)
         × StopsBeforeSending (sending_side ⟦<PlanFeed<F::File, F::Stamped> as Feed>⟧
-        (LooksAt F.Stamped.Stamped) P.Pause D.Dial D.Reader.Source D.Writer.Sink) job.now options.now
-        (outside_by F.RecordingFiles B.StateFiles job.now files.old states.old states.new)
+        (LooksAt F.Stamped.Stamped) X.Pause.Pause X.Dial.Dial X.Dial.Reader.Source X.Dial.Writer.Sink)
+        asked.now.job asked.now.options.now
+        (outside_by F.RecordingFiles B.StateFiles asked.now.job files.old states.old states.new)
         (ways pause.old dial.old) (ways pause.new dial.new) did
         × (F.failures files.new ≡ failures_if did.sent.is_system_well (F.failures files.old))
         × (B.failures states.new ≡ failures_if did.is_state_well (B.failures states.old))
-        × HasReported E.Sink did faults.old faults.new) }
+        × HasReported X.Diagnostics.Sink did faults.old faults.new) }
 {
+    let Asked {
+        alloc,
+        job,
+        options,
+    } = *asked;
     let path = job.place.path;
-    let header = read_header(alloc, job, options, files, faults)?;
+    let header = read_header(alloc, &job, options, files, faults)?;
     let found = match find_count(states, path, header.text.as_slice()) {
         Ok(found) => found,
         Err(error) => return Err(report_unkept(alloc, path, &error, faults)),
     };
-    let count = begin_at(alloc, job, found, pause, dial, faults)?;
+    let count = begin_at(alloc, &job, found, pause, dial, faults)?;
     let text = header.text.as_slice();
     match open_log(alloc, states, path, text, found, count) {
         Ok(log) => Ok(Beginning {

@@ -9,20 +9,19 @@ ghost use Rattle.bw_send_file.specs.FileSendings.{FeedsRecording, IsFileSent};
 ghost use Rattle.bw_send_file.specs.PlanFeeds.{feed_plan, feed_reader, feed_stamped, feed_stamp};
 
 use crate::feed::PlanFeed;
-use crate::job::Recorder;
+use crate::job::{Errand, FileJob};
 use crate::sending::send_feed;
+use crate::way::{SendingSides, Way};
 use bw_console::Exit;
 use bw_plan::Options;
-use bw_ports::{Dial, Pause, RecordingFiles};
+use bw_ports::RecordingFiles;
 use bw_recorder::{
-    NO_MEMORY, OpenFault, RecordingFile, open_recording, read_options, refuse_options,
-    report_open_fault, warn,
+    NO_MEMORY, OpenFault, open_recording, read_options, refuse_options, report_open_fault, warn,
 };
-use bw_stream::Sink;
 use bw_upload::{Feed, Observer};
 use std::alloc::Global;
 
-/// Sends the recording in a file as a recorder, as `send_feed` does. What the recording loses of the
+/// Sends the recording in a job's file, as `send_feed` does. What the recording loses of the
 /// file is reported first.
 ///
 /// Before any link is made: `Refused` for a fault of the file or of the recording, whose line is
@@ -33,48 +32,39 @@ use std::alloc::Global;
 /// - What `send_feed` leaves open.
 /// - When the system fails, and the reason in its line.
 /// - Of a file whose bytes aren't reported, which bytes the requests are of.
-pub fn send_file<F: RecordingFiles, P: Pause, D: Dial, V: Observer, W: Sink, E: Sink>(
-    alloc: Global,
-    recorder: &Recorder<'_>,
-    file: &RecordingFile<'_>,
+pub fn send_file<F: RecordingFiles, X: SendingSides, V: Observer>(
+    job: &FileJob<'_>,
     files: &mut F,
-    pause: &mut P,
-    dial: &mut D,
+    way: Way<'_, X>,
     observer: &mut V,
-    out: &mut W,
-    faults: &mut E,
+    out: &mut X::Output,
+    faults: &mut X::Diagnostics,
 ) -> Exit
     // The feed gives the plan's requests in order; CLOSE only if the file's stamp stays.
     ensures { (did : Packing) × (did.exit ≡ result)
-        × IsFileSent ⟦<PlanFeed<F::File, F::Stamped> as Feed>⟧ P.Pause D.Dial D.Reader.Source
-        D.Writer.Sink recorder.now file.now (F.file_at files.old file.now.path.now)
-        (λ f. IsLookedAt (F.stamp_at files.old file.now.path.now)
+        × IsFileSent ⟦<PlanFeed<F::File, F::Stamped> as Feed>⟧ X.Pause.Pause X.Dial.Dial X.Dial.Reader.Source
+        X.Dial.Writer.Sink job.now.recorder job.now.file (F.file_at files.old job.now.file.path.now)
+        (λ f. IsLookedAt (F.stamp_at files.old job.now.file.path.now)
         (F.Stamped.stamp_of (feed_stamped f)) (feed_stamp f))
-        (record { pause = pause.old; dial = dial.old })
-        (record { pause = pause.new; dial = dial.new }) did
+        (record { pause = way.entry.pause.now; dial = way.entry.dial.now })
+        (record { pause = way.exit.0.now; dial = way.exit.1.0.now }) did
         × (F.failures files.new ≡ failures_if did.is_system_well (F.failures files.old))
-        × HasPacked W.Sink E.Sink did out.old out.new faults.old faults.new }
+        × HasPacked X.Output.Sink X.Diagnostics.Sink did out.old out.new faults.old faults.new }
 {
-    let options = match read_options(alloc, file) {
+    let options = match read_options(way.alloc, &job.file) {
         Ok(options) => options,
         Err(fault) => return refuse_options(fault, faults),
     };
-    match open_feed(alloc, files, file.path, &options) {
+    let errand = Errand {
+        recorder: job.recorder,
+        path: job.file.path,
+    };
+    match open_feed(way.alloc, files, errand.path, &options) {
         Ok(mut opened) => {
             warn(opened.warnings.as_slice(), faults);
-            send_feed(
-                alloc,
-                recorder,
-                file.path,
-                &mut opened.feed,
-                pause,
-                dial,
-                observer,
-                out,
-                faults,
-            )
+            send_feed(&errand, &mut opened.feed, way, observer, out, faults)
         }
-        Err(fault) => report_open_fault(alloc, "send", file.path, &fault, faults),
+        Err(fault) => report_open_fault(way.alloc, "send", errand.path, &fault, faults),
     }
 }
 

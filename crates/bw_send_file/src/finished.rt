@@ -7,18 +7,17 @@ ghost use Rattle.bw_recorder.specs.Packs.{HasPacked, Packing};
 ghost use Rattle.bw_send_file.specs.FileLooks.{LooksAt};
 ghost use Rattle.bw_send_file.specs.PcmSendings.{IsPcmSent, OpensSamples, empty_at};
 
-use crate::pcm_job::PcmFile;
+use crate::pcm_job::PcmJob;
 use crate::pcm_sending::send_opened;
-use crate::{PlanFeed, Recorder};
+use crate::{Errand, PlanFeed, SendingSides, Way};
 use bw_console::Exit;
 use bw_plan::{Options, Pcm, Plan, RecordingFault, RecordingKind, block_frames};
-use bw_ports::{Dial, Pause, RecordingFiles};
+use bw_ports::RecordingFiles;
 use bw_recorder::{NO_MEMORY, OpenFault, read_options, refuse_options, unread};
-use bw_stream::Sink;
 use bw_upload::{Feed, Observer};
 use std::alloc::Global;
 
-/// Sends the headerless samples in a file as a recorder, as `send_feed` does. Before CLOSE the file
+/// Sends the headerless samples in a job's file, as `send_feed` does. Before CLOSE the file
 /// is looked at again: no CLOSE is sent if its length or its time of change is another one.
 ///
 /// Before any link is made: `Refused` for a fault of the format or of the file, whose line is
@@ -30,45 +29,37 @@ use std::alloc::Global;
 /// - When the system fails, and the reason in its line.
 /// - Of a file whose bytes aren't reported, or whose reported length is another one, which bytes the
 ///   requests are of.
-pub fn send_samples<F: RecordingFiles, P: Pause, D: Dial, V: Observer, W: Sink, E: Sink>(
-    alloc: Global,
-    recorder: &Recorder<'_>,
-    file: &PcmFile<'_>,
+pub fn send_samples<F: RecordingFiles, X: SendingSides, V: Observer>(
+    job: &PcmJob<'_>,
     files: &mut F,
-    pause: &mut P,
-    dial: &mut D,
+    way: Way<'_, X>,
     observer: &mut V,
-    out: &mut W,
-    faults: &mut E,
+    out: &mut X::Output,
+    faults: &mut X::Diagnostics,
 ) -> Exit
     // The feed has all requests of the plan of the samples, which are a recording.
     ensures { (did : Packing) × (did.exit ≡ result)
-        × IsPcmSent ⟦<PlanFeed<F::File, F::Stamped> as Feed>⟧ P.Pause D.Dial D.Reader.Source
-        D.Writer.Sink recorder.now file.now
+        × IsPcmSent ⟦<PlanFeed<F::File, F::Stamped> as Feed>⟧ X.Pause.Pause X.Dial.Dial X.Dial.Reader.Source
+        X.Dial.Writer.Sink job.now.recorder job.now.file
         (OpensSamples ⟦<PlanFeed<F::File, F::Stamped> as Feed>⟧ (LooksAt F.Stamped.Stamped)
-        (F.file_at files.old file.now.file.path.now) (F.stamp_at files.old file.now.file.path.now)
-        file.now.pcm)
-        (record { pause = pause.old; dial = dial.old })
-        (record { pause = pause.new; dial = dial.new }) did
+        (F.file_at files.old job.now.file.file.path.now) (F.stamp_at files.old job.now.file.file.path.now)
+        job.now.file.pcm)
+        (record { pause = way.entry.pause.now; dial = way.entry.dial.now })
+        (record { pause = way.exit.0.now; dial = way.exit.1.0.now }) did
         × (F.failures files.new ≡ failures_if did.is_system_well (F.failures files.old))
-        × HasPacked W.Sink E.Sink did out.old out.new faults.old faults.new }
+        × HasPacked X.Output.Sink X.Diagnostics.Sink did out.old out.new faults.old faults.new }
 {
-    let options = match read_options(alloc, &file.file) {
+    let options = match read_options(way.alloc, &job.file.file) {
         Ok(options) => options,
         Err(fault) => return refuse_options(fault, faults),
     };
-    let opened = open_samples(alloc, files, file.file.path, file.pcm, &options);
-    send_opened(
-        alloc,
-        recorder,
-        file.file.path,
-        opened,
-        pause,
-        dial,
-        observer,
-        out,
-        faults,
-    )
+    let path = job.file.file.path;
+    let opened = open_samples(way.alloc, files, path, job.file.pcm, &options);
+    let errand = Errand {
+        recorder: job.recorder,
+        path,
+    };
+    send_opened(&errand, opened, way, observer, out, faults)
 }
 
 /// Looks at the file at a path, and opens its samples.

@@ -9,20 +9,19 @@ ghost use Rattle.bw_send_file.specs.PcmSendings.{FollowsFile, FollowsUnmarked, I
 
 use crate::marked_feed::MarkedFeed;
 use crate::pcm_feed::PcmFeed;
-use crate::pcm_job::PcmFile;
+use crate::pcm_job::{FollowedJob, PcmFile};
 use crate::pcm_sending::send_opened;
-use crate::{PcmRequests, Recorder};
+use crate::{Errand, PcmRequests, SendingSides, Way};
 use bw_console::Exit;
 use bw_live::{MarkPlace, Marking};
 use bw_plan::Options;
-use bw_ports::{Dial, Pause, RecordingFiles};
+use bw_ports::RecordingFiles;
 use bw_recorder::{OpenFault, read_options, refuse_options};
-use bw_stream::Sink;
 use bw_upload::{Feed, Observer};
 use std::alloc::Global;
 use std::io;
 
-/// Sends the headerless samples in a file as a recorder, as `send_feed` does, while they are still
+/// Sends the headerless samples in a job's file, as `send_feed` does, while they are still
 /// being written: each block once it is written, and the rest and CLOSE once the path `until`
 /// exists; or if that is None, once standard input, which is appended to the file, has ended. What
 /// is written before this is noticed is sent. If the file names one of marks, each of its lines becomes
@@ -39,60 +38,37 @@ use std::io;
 /// - What `send_feed` leaves open.
 /// - When the system fails, and the reason in its line.
 /// - Of a file whose bytes aren't reported, which bytes the requests are of.
-pub fn follow_samples<
-    F: RecordingFiles + Marking,
-    P: Pause,
-    D: Dial,
-    V: Observer,
-    W: Sink,
-    E: Sink,
->(
-    alloc: Global,
-    recorder: &Recorder<'_>,
-    file: &PcmFile<'_>,
-    until: Option<&str>,
+pub fn follow_samples<F: RecordingFiles + Marking, X: SendingSides, V: Observer>(
+    job: &FollowedJob<'_>,
     files: &mut F,
-    pause: &mut P,
-    dial: &mut D,
+    way: Way<'_, X>,
     observer: &mut V,
-    out: &mut W,
-    faults: &mut E,
+    out: &mut X::Output,
+    faults: &mut X::Diagnostics,
 ) -> Exit
     // If the file's later bytes are a recording, the feed has all requests of its plan.
     ensures { (did : Packing) × (did.exit ≡ result)
-        × IsPcmSent ⟦<MarkedFeed<PcmFeed<F::Growing>, F::Marker> as Feed>⟧ P.Pause D.Dial
-        D.Reader.Source D.Writer.Sink recorder.now file.now
-        (FollowsFile ⟦<MarkedFeed<PcmFeed<F::Growing>, F::Marker> as Feed>⟧ (is_some until.entry)
-        (F.file_at files.old file.now.file.path.now) (placed_in F.points_at files.old file.now)
-        file.now.pcm)
-        (record { pause = pause.old; dial = dial.old })
-        (record { pause = pause.new; dial = dial.new }) did
+        × IsPcmSent ⟦<MarkedFeed<PcmFeed<F::Growing>, F::Marker> as Feed>⟧ X.Pause.Pause X.Dial.Dial
+        X.Dial.Reader.Source X.Dial.Writer.Sink job.now.recorder job.now.file
+        (FollowsFile ⟦<MarkedFeed<PcmFeed<F::Growing>, F::Marker> as Feed>⟧ (is_some job.now.until)
+        (F.file_at files.old job.now.file.file.path.now) (placed_in F.points_at files.old job.now.file)
+        job.now.file.pcm)
+        (record { pause = way.entry.pause.now; dial = way.entry.dial.now })
+        (record { pause = way.exit.0.now; dial = way.exit.1.0.now }) did
         × (F.failures files.new ≡ failures_if did.is_system_well (F.failures files.old))
-        × HasPacked W.Sink E.Sink did out.old out.new faults.old faults.new }
+        × HasPacked X.Output.Sink X.Diagnostics.Sink did out.old out.new faults.old faults.new }
 {
-    let options = match read_options(alloc, &file.file) {
+    let options = match read_options(way.alloc, &job.file.file) {
         Ok(options) => options,
         Err(fault) => return refuse_options(fault, faults),
     };
-    let opened = open_followed(
-        alloc,
-        files,
-        recorder.name.as_bytes(),
-        file,
-        until,
-        &options,
-    );
-    send_opened(
-        alloc,
-        recorder,
-        file.file.path,
-        opened,
-        pause,
-        dial,
-        observer,
-        out,
-        faults,
-    )
+    let name = job.recorder.name.as_bytes();
+    let opened = open_followed(way.alloc, files, name, &job.file, job.until, &options);
+    let errand = Errand {
+        recorder: job.recorder,
+        path: job.file.file.path,
+    };
+    send_opened(&errand, opened, way, observer, out, faults)
 }
 
 /// Opens a file at its first sample, to be followed until the other path exists, or standard input

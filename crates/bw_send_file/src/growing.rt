@@ -8,23 +8,21 @@ ghost use Rattle.bw_stream.specs.Readers.{Of};
 
 use crate::PcmRequests;
 use crate::growing_header::{GrowingHeader, read_header};
-use crate::job::Recorder;
+use crate::job::{Errand, GrowingJob};
 use crate::marked_feed::MarkedFeed;
 use crate::pcm_feed::PcmFeed;
 use crate::sending::send_feed;
+use crate::way::{SendingSides, Way};
 use bw_console::Exit;
 use bw_live::{GrowingFiles, Marking};
 use bw_plan::Options;
-use bw_ports::{Dial, Pause};
 use bw_recorder::{
-    HeldHeader, NO_MEMORY, OpenFault, RecordingFile, read_options, refuse_options,
-    report_open_fault, warn,
+    HeldHeader, NO_MEMORY, OpenFault, read_options, refuse_options, report_open_fault, warn,
 };
-use bw_stream::Sink;
 use bw_upload::{Feed, Observer};
 use std::alloc::Global;
 
-/// Sends the recording in a WAVE file as a recorder, as `send_feed` does, while another program is
+/// Sends the recording in a job's WAVE file, as `send_feed` does, while another program is
 /// still writing it. Its header is read once, as soon as it is written up to the samples; what the
 /// recording loses of it is reported first. Each block of samples is sent once it is known to be one,
 /// and the rest and CLOSE once the samples are complete: once the path `until` exists, or if that is
@@ -38,55 +36,39 @@ use std::alloc::Global;
 /// - What `send_feed` leaves open.
 /// - When the system fails, and the reason in its line.
 /// - Of a file whose bytes aren't reported, which bytes the requests are of.
-pub fn follow_recording<
-    F: GrowingFiles + Marking,
-    P: Pause,
-    D: Dial,
-    V: Observer,
-    W: Sink,
-    E: Sink,
->(
-    alloc: Global,
-    recorder: &Recorder<'_>,
-    file: &RecordingFile<'_>,
-    until: Option<&str>,
+pub fn follow_recording<F: GrowingFiles + Marking, X: SendingSides, V: Observer>(
+    job: &GrowingJob<'_>,
     files: &mut F,
-    pause: &mut P,
-    dial: &mut D,
+    way: Way<'_, X>,
     observer: &mut V,
-    out: &mut W,
-    faults: &mut E,
+    out: &mut X::Output,
+    faults: &mut X::Diagnostics,
 ) -> Exit
     // Of the file's header and of its samples, as they are in the end, the feed has all requests.
     ensures { (did : Packing) × (did.exit ≡ result)
-        × IsGrowingSent ⟦<MarkedFeed<PcmFeed<F::Growing>, F::Marker> as Feed>⟧ P.Pause D.Dial
-        D.Reader.Source D.Writer.Sink recorder.now file.now (F.RecordingFiles.file_at files.old file.now.path.now)
-        (record { pause = pause.old; dial = dial.old })
-        (record { pause = pause.new; dial = dial.new }) did
+        × IsGrowingSent ⟦<MarkedFeed<PcmFeed<F::Growing>, F::Marker> as Feed>⟧ X.Pause.Pause X.Dial.Dial
+        X.Dial.Reader.Source X.Dial.Writer.Sink job.now.recorder job.now.file
+        (F.RecordingFiles.file_at files.old job.now.file.path.now)
+        (record { pause = way.entry.pause.now; dial = way.entry.dial.now })
+        (record { pause = way.exit.0.now; dial = way.exit.1.0.now }) did
         × (F.RecordingFiles.failures files.new
         ≡ failures_if did.is_system_well (F.RecordingFiles.failures files.old))
-        × HasPacked W.Sink E.Sink did out.old out.new faults.old faults.new }
+        × HasPacked X.Output.Sink X.Diagnostics.Sink did out.old out.new faults.old faults.new }
 {
-    let options = match read_options(alloc, file) {
+    let options = match read_options(way.alloc, &job.file) {
         Ok(options) => options,
         Err(fault) => return refuse_options(fault, faults),
     };
-    match open_growing(alloc, files, file.path, until, &options) {
+    let errand = Errand {
+        recorder: job.recorder,
+        path: job.file.path,
+    };
+    match open_growing(way.alloc, files, errand.path, job.until, &options) {
         Ok(mut opened) => {
             warn(opened.warnings.as_slice(), faults);
-            send_feed(
-                alloc,
-                recorder,
-                file.path,
-                &mut opened.feed,
-                pause,
-                dial,
-                observer,
-                out,
-                faults,
-            )
+            send_feed(&errand, &mut opened.feed, way, observer, out, faults)
         }
-        Err(fault) => report_open_fault(alloc, "send", file.path, &fault, faults),
+        Err(fault) => report_open_fault(way.alloc, "send", errand.path, &fault, faults),
     }
 }
 

@@ -1,4 +1,5 @@
 //! What a command line asks for beside headerless samples.
+use crate::job::Recorder;
 use bw_plan::Pcm;
 use bw_recorder::RecordingFile;
 
@@ -11,4 +12,24 @@ pub struct PcmFile<'a> {
     pub pcm: Pcm,
     /// The path of the file to which lines for markers are appended while the recording is made.
     pub marks: Option<&'a str>,
+}
+
+/// Headerless samples that are sent.
+#[derive(Clone, Copy)]
+pub struct PcmJob<'a> {
+    /// As which recorder they are sent.
+    pub recorder: Recorder<'a>,
+    /// Their file.
+    pub file: PcmFile<'a>,
+}
+
+/// Headerless samples that are sent while another program writes them.
+#[derive(Clone, Copy)]
+pub struct FollowedJob<'a> {
+    /// As which recorder they are sent.
+    pub recorder: Recorder<'a>,
+    /// Their file.
+    pub file: PcmFile<'a>,
+    /// The path that says by being there that they are complete; None if they come by standard input.
+    pub until: Option<&'a str>,
 }

@@ -4,44 +4,29 @@ ghost use Rattle.bw_recorder.specs.Openings.{is_system_well};
 ghost use Rattle.bw_recorder.specs.Packs.{HasPacked, Packing};
 ghost use Rattle.bw_send_file.specs.PcmSendings.{SendsOpened};
 
-use crate::{FeedFault, Recorder, send_feed};
+use crate::{Errand, FeedFault, SendingSides, Way, send_feed};
 use bw_console::Exit;
-use bw_ports::{Dial, Pause};
 use bw_recorder::{OpenFault, report_open_fault};
-use bw_stream::Sink;
 use bw_upload::{Feed, Observer};
-use std::alloc::Global;
 
-/// Sends what a feed gives of the file at a path, as `send_feed` does; or reports why there is none.
-pub(crate) fn send_opened<
-    X: Feed<Fault = FeedFault> + Drop,
-    P: Pause,
-    D: Dial,
-    V: Observer,
-    W: Sink,
-    E: Sink,
->(
-    alloc: Global,
-    recorder: &Recorder<'_>,
-    path: &str,
-    opened: Result<X, OpenFault>,
-    pause: &mut P,
-    dial: &mut D,
+/// Sends what a feed gives of an errand's file, as `send_feed` does; or reports why there is none.
+pub(crate) fn send_opened<F: Feed<Fault = FeedFault> + Drop, X: SendingSides, V: Observer>(
+    errand: &Errand<'_>,
+    opened: Result<F, OpenFault>,
+    way: Way<'_, X>,
     observer: &mut V,
-    out: &mut W,
-    faults: &mut E,
+    out: &mut X::Output,
+    faults: &mut X::Diagnostics,
 ) -> Exit
     ensures { (did : Packing) × (did.exit ≡ result) × (did.is_system_well ≡ is_system_well opened)
-        × SendsOpened X.Feed P.Pause D.Dial D.Reader.Source D.Writer.Sink
-        (record { name = recorder.now.name.now; path = path.now; most = recorder.now.fruitless })
-        opened (record { pause = pause.old; dial = dial.old })
-        (record { pause = pause.new; dial = dial.new }) did
-        × HasPacked W.Sink E.Sink did out.old out.new faults.old faults.new }
+        × SendsOpened F.Feed X.Pause.Pause X.Dial.Dial X.Dial.Reader.Source X.Dial.Writer.Sink
+        (record { name = errand.now.recorder.name.now; path = errand.now.path.now; most = errand.now.recorder.fruitless })
+        opened (record { pause = way.entry.pause.now; dial = way.entry.dial.now })
+        (record { pause = way.exit.0.now; dial = way.exit.1.0.now }) did
+        × HasPacked X.Output.Sink X.Diagnostics.Sink did out.old out.new faults.old faults.new }
 {
     match opened {
-        Ok(mut feed) => send_feed(
-            alloc, recorder, path, &mut feed, pause, dial, observer, out, faults,
-        ),
-        Err(fault) => report_open_fault(alloc, "send", path, &fault, faults),
+        Ok(mut feed) => send_feed(errand, &mut feed, way, observer, out, faults),
+        Err(fault) => report_open_fault(way.alloc, "send", errand.path, &fault, faults),
     }
 }

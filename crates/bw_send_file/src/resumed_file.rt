@@ -6,18 +6,26 @@ ghost use Rattle.bw_send_file.specs.FilesSentOn.{Continuation, HasContinued, IsF
 ghost use Rattle.bw_send_file.specs.FilesSentOn.{outside_by, sending_side, ways};
 
 use crate::PlanFeed;
-use crate::beginning::{Beginning, begin};
+use crate::beginning::{Asked, Beginning, begin};
 use crate::keeper::StateKeeper;
 use crate::observers::Observers;
 use crate::reports::report_end;
-use crate::rest::send_rest;
+use crate::rest::{Rest, send_rest};
 use crate::resumed_job::Job;
+use crate::way::{SendingSides, Way};
 use bw_console::Exit;
-use bw_ports::{Dial, Pause, RecordingFiles, StateFiles, Stopwatch};
+use bw_ports::{RecordingFiles, StateKeeping};
 use bw_recorder::{read_options, refuse_options};
-use bw_stream::Sink;
 use bw_upload::{Feed, Observer};
-use std::alloc::Global;
+
+/// Recordings' files, and those of their states.
+#[derive(Drop)]
+pub struct KeptFiles<'a, F: RecordingFiles + StateKeeping> {
+    /// The files of recordings.
+    pub files: &'a mut F,
+    /// The files of states.
+    pub states: &'a mut F::States,
+}
 
 /// Sends the recording in a file as `send_file` does, and notes in a state how many requests are
 /// settled and stored. If the state is of this take already, it goes on at the count that it says:
@@ -33,53 +41,55 @@ use std::alloc::Global;
 /// # Not specified
 /// - What `send_file` leaves open.
 /// - What the state's file has beyond its first bytes, and when a call on it fails.
-pub fn send_file_on<
-    F: RecordingFiles,
-    B: StateFiles,
-    T: Stopwatch,
-    P: Pause,
-    D: Dial,
-    V: Observer,
-    W: Sink,
-    E: Sink,
->(
-    alloc: Global,
+pub fn send_file_on<F: RecordingFiles + StateKeeping, X: SendingSides, V: Observer>(
     job: &Job<'_>,
-    files: &mut F,
-    states: &mut B,
-    stopwatch: &mut T,
-    pause: &mut P,
-    dial: &mut D,
+    kept: KeptFiles<'_, F>,
+    way: Way<'_, X>,
     observer: &mut V,
-    out: &mut W,
-    faults: &mut E,
+    out: &mut X::Output,
+    faults: &mut X::Diagnostics,
 ) -> Exit
     // The first N requests are skipped, none a CLOSE; `send_feed_after` sends the others.
     ensures { (did : Continuation) × (did.exit ≡ result)
         × IsFileSentOn (sending_side ⟦<PlanFeed<F::File, F::Stamped> as Feed>⟧
-        (LooksAt F.Stamped.Stamped) P.Pause D.Dial D.Reader.Source D.Writer.Sink) job.now
-        B.Log.StateLog (outside_by F.RecordingFiles B.StateFiles job.now files.old states.old states.new)
-        (ways pause.old dial.old) (ways pause.new dial.new) did
-        × (F.failures files.new ≡ failures_if did.sent.is_system_well (F.failures files.old))
-        × (B.failures states.new ≡ failures_if did.is_state_well (B.failures states.old))
-        × HasContinued W.Sink E.Sink did out.old out.new faults.old faults.new }
+        (LooksAt F.Stamped.Stamped) X.Pause.Pause X.Dial.Dial X.Dial.Reader.Source X.Dial.Writer.Sink) job.now
+        F.States.Log.StateLog (outside_by F.RecordingFiles F.States.StateFiles job.now
+        kept.entry.files.now kept.entry.states.now kept.exit.1.0.now)
+        (ways way.entry.pause.now way.entry.dial.now) (ways way.exit.0.now way.exit.1.0.now) did
+        × (F.failures kept.exit.0.now ≡ failures_if did.sent.is_system_well (F.failures kept.entry.files.now))
+        × (F.States.failures kept.exit.1.0.now
+        ≡ failures_if did.is_state_well (F.States.failures kept.entry.states.now))
+        × HasContinued X.Output.Sink X.Diagnostics.Sink did out.old out.new faults.old faults.new }
 {
+    let KeptFiles { files, states } = kept;
+    let Way { pause, dial, alloc } = way;
     let options = match read_options(alloc, &job.file) {
         Ok(options) => options,
         Err(fault) => return refuse_options(fault, faults),
     };
-    let beginning = match begin(alloc, job, &options, files, states, pause, dial, faults) {
+    let asked = Asked {
+        alloc,
+        job: *job,
+        options: &options,
+    };
+    let beginning = match begin::<F, F::States, X>(&asked, files, states, pause, dial, faults) {
         Ok(beginning) => beginning,
         Err(exit) => return exit,
     };
     let Beginning { log, count, stamp } = beginning;
+    let mut stopwatch = files.stopwatch();
     let mut both = Observers {
-        first: StateKeeper::new(log, stopwatch, count),
+        first: StateKeeper::new(log, &mut stopwatch, count),
         second: observer,
     };
-    let exit = send_rest(
-        alloc, job, &options, &stamp, count, files, pause, dial, &mut both, out, faults,
-    );
+    let rest = Rest {
+        job: *job,
+        options: &options,
+        stamp,
+        count,
+    };
+    let way = Way::<X> { pause, dial, alloc };
+    let exit = send_rest(&rest, files, way, &mut both, out, faults);
     let Observers {
         first: keeper,
         second: _second,

@@ -7,14 +7,12 @@ ghost use Rattle.bw_sender.specs.Senders.{HasStored};
 ghost use Rattle.bw_send_file.specs.Sendings.{IsFeedSentAfter};
 
 use crate::fault::FeedFault;
-use crate::job::Recorder;
-use crate::sending::send_by;
+use crate::job::RestErrand;
+use crate::sending::{Begun, send_by};
+use crate::way::{SendingSides, Way};
 use bw_console::Exit;
-use bw_ports::{Dial, Pause};
 use bw_sender::Sender;
-use bw_stream::Sink;
 use bw_upload::{Feed, Observer};
-use std::alloc::Global;
 
 /// Sends what a feed gives as `send_feed` does, after the first `count` requests of the take, which
 /// were sent before. The premise is that all of these are stored, and that none of them is a CLOSE:
@@ -22,36 +20,28 @@ use std::alloc::Global;
 ///
 /// # Not specified
 /// What `send_feed` leaves open.
-pub fn send_feed_after<
-    X: Feed<Fault = FeedFault>,
-    P: Pause,
-    D: Dial,
-    V: Observer,
-    W: Sink,
-    E: Sink,
->(
-    alloc: Global,
-    recorder: &Recorder<'_>,
-    path: &str,
-    count: u32,
-    feed: &mut X,
-    pause: &mut P,
-    dial: &mut D,
+pub fn send_feed_after<F: Feed<Fault = FeedFault>, X: SendingSides, V: Observer>(
+    rest: &RestErrand<'_>,
+    feed: &mut F,
+    way: Way<'_, X>,
     observer: &mut V,
-    out: &mut W,
-    faults: &mut E,
+    out: &mut X::Output,
+    faults: &mut X::Diagnostics,
 ) -> Exit
-    requires { count ≤ last_number Second + 1 }
+    requires { rest.now.count ≤ last_number Second + 1 }
     // With the status 0 these and all requests of the feed are stored.
-    ensures { (s : Defined) → HasStored recorder.now.name.now count s → (did : Did) × (did.exit ≡ result)
-        × IsFeedSentAfter X.Feed P.Pause D.Dial D.Reader.Source D.Writer.Sink s
-        (record { name = recorder.now.name.now; path = path.now; most = recorder.now.fruitless })
-        feed.old feed.new (record { pause = pause.old; dial = dial.old })
-        (record { pause = pause.new; dial = dial.new }) did
-        × HasWritten W.Sink E.Sink did out.old out.new faults.old faults.new }
+    ensures { (s : Defined) → HasStored rest.now.errand.recorder.name.now rest.now.count s → (did : Did) × (did.exit ≡ result)
+        × IsFeedSentAfter F.Feed X.Pause.Pause X.Dial.Dial X.Dial.Reader.Source X.Dial.Writer.Sink s
+        (record {
+          name = rest.now.errand.recorder.name.now;
+          path = rest.now.errand.path.now;
+          most = rest.now.errand.recorder.fruitless;
+        })
+        feed.old feed.new (record { pause = way.entry.pause.now; dial = way.entry.dial.now })
+        (record { pause = way.exit.0.now; dial = way.exit.1.0.now }) did
+        × HasWritten X.Output.Sink X.Diagnostics.Sink did out.old out.new faults.old faults.new }
 {
-    let sender = Sender::resume(alloc, recorder.name.copy(), count);
-    send_by(
-        alloc, sender, recorder, path, feed, pause, dial, observer, out, faults,
-    )
+    let errand = rest.errand;
+    let sender = Sender::resume(way.alloc, errand.recorder.name.copy(), rest.count);
+    send_by(Begun { sender, errand }, feed, way, observer, out, faults)
 }

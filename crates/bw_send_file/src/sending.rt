@@ -7,17 +7,16 @@ ghost use Rattle.bw_send_file.specs.Sendings.{IsFeedSent, IsFeedSentAfter};
 
 use crate::ending::report_end;
 use crate::fault::FeedFault;
-use crate::job::Recorder;
+use crate::job::Errand;
 use crate::settling::{feed_fault, settle};
+use crate::way::{SendingSides, Way};
 use bw_console::print::give_up;
 use bw_console::{Exit, Fault};
-use bw_ports::{Dial, Pause};
 use bw_sender::Sender;
-use bw_stream::Sink;
 use bw_upload::{Feed, Observer, PatientSender, Uploaded, upload};
-use std::alloc::{AllocError, Global};
+use std::alloc::AllocError;
 
-/// Sends what a feed gives of the file at a path, as a recorder, and prints how many requests are
+/// Sends what a feed gives of an errand's file, and prints how many requests are
 /// settled and stored, and which are refused. Unless all are stored or one is refused, a line on
 /// `faults` begins with the cause: Conflict, TooFar, NotOffered, Fruitless, Limit, Changed,
 /// Unsendable, or what the file lacks. A failure to write it is ignored.
@@ -34,66 +33,74 @@ use std::alloc::{AllocError, Global};
 /// # Not specified
 /// - When memory is refused, and when a link can't be made.
 /// - That the observer gets each report.
-pub fn send_feed<X: Feed<Fault = FeedFault>, P: Pause, D: Dial, V: Observer, W: Sink, E: Sink>(
-    alloc: Global,
-    recorder: &Recorder<'_>,
-    path: &str,
-    feed: &mut X,
-    pause: &mut P,
-    dial: &mut D,
+pub fn send_feed<F: Feed<Fault = FeedFault>, X: SendingSides, V: Observer>(
+    errand: &Errand<'_>,
+    feed: &mut F,
+    way: Way<'_, X>,
     observer: &mut V,
-    out: &mut W,
-    faults: &mut E,
+    out: &mut X::Output,
+    faults: &mut X::Diagnostics,
 ) -> Exit
     ensures { (did : Did) × (did.exit ≡ result)
-        × IsFeedSent X.Feed P.Pause D.Dial D.Reader.Source D.Writer.Sink
-        (record { name = recorder.now.name.now; path = path.now; most = recorder.now.fruitless })
-        feed.old feed.new (record { pause = pause.old; dial = dial.old })
-        (record { pause = pause.new; dial = dial.new }) did
-        × HasWritten W.Sink E.Sink did out.old out.new faults.old faults.new }
+        × IsFeedSent F.Feed X.Pause.Pause X.Dial.Dial X.Dial.Reader.Source X.Dial.Writer.Sink
+        (record { name = errand.now.recorder.name.now; path = errand.now.path.now; most = errand.now.recorder.fruitless })
+        feed.old feed.new (record { pause = way.entry.pause.now; dial = way.entry.dial.now })
+        (record { pause = way.exit.0.now; dial = way.exit.1.0.now }) did
+        × HasWritten X.Output.Sink X.Diagnostics.Sink did out.old out.new faults.old faults.new }
 {
-    let sender = Sender::new(alloc, recorder.name.copy());
-    send_by(
-        alloc, sender, recorder, path, feed, pause, dial, observer, out, faults,
-    )
+    let sender = Sender::new(way.alloc, errand.recorder.name.copy());
+    let begun = Begun {
+        sender,
+        errand: *errand,
+    };
+    send_by(begun, feed, way, observer, out, faults)
+}
+
+/// A file's sender, or that memory was refused for it.
+#[derive(Drop)]
+pub(crate) struct Begun<'a> {
+    pub(crate) sender: Result<Sender, AllocError>,
+    pub(crate) errand: Errand<'a>,
 }
 
 /// Sends what a feed gives of the file at a path as `send_feed` does, by this sender; or reports that
 /// memory was refused for it.
-pub(crate) fn send_by<X: Feed<Fault = FeedFault>, P: Pause, D: Dial, V: Observer, W: Sink, E: Sink>(
-    alloc: Global,
-    sender: Result<Sender, AllocError>,
-    recorder: &Recorder<'_>,
-    path: &str,
-    feed: &mut X,
-    pause: &mut P,
-    dial: &mut D,
+pub(crate) fn send_by<F: Feed<Fault = FeedFault>, X: SendingSides, V: Observer>(
+    begun: Begun<'_>,
+    feed: &mut F,
+    way: Way<'_, X>,
     observer: &mut V,
-    out: &mut W,
-    faults: &mut E,
+    out: &mut X::Output,
+    faults: &mut X::Diagnostics,
 ) -> Exit
-    ensures { (s : Defined) → IfOk sender (IsSender s) → (did : Did) × (did.exit ≡ result)
-        × IsFeedSentAfter X.Feed P.Pause D.Dial D.Reader.Source D.Writer.Sink s
-        (record { name = recorder.now.name.now; path = path.now; most = recorder.now.fruitless })
-        feed.old feed.new (record { pause = pause.old; dial = dial.old })
-        (record { pause = pause.new; dial = dial.new }) did
-        × HasWritten W.Sink E.Sink did out.old out.new faults.old faults.new }
+    ensures { (s : Defined) → IfOk begun.entry.sender (IsSender s) → (did : Did) × (did.exit ≡ result)
+        × IsFeedSentAfter F.Feed X.Pause.Pause X.Dial.Dial X.Dial.Reader.Source X.Dial.Writer.Sink s
+        (record {
+          name = begun.entry.errand.recorder.name.now;
+          path = begun.entry.errand.path.now;
+          most = begun.entry.errand.recorder.fruitless;
+        })
+        feed.old feed.new (record { pause = way.entry.pause.now; dial = way.entry.dial.now })
+        (record { pause = way.exit.0.now; dial = way.exit.1.0.now }) did
+        × HasWritten X.Output.Sink X.Diagnostics.Sink did out.old out.new faults.old faults.new }
 {
+    let Begun { sender, errand } = begun;
     let Ok(sender) = sender else {
         return give_up(faults, &Fault::Memory);
     };
-    let fruitless = recorder.fruitless;
+    let Way { pause, dial, alloc } = way;
+    let fruitless = errand.recorder.fruitless;
     let started = PatientSender { sender, fruitless };
     let Uploaded { sender, outcome } = upload(alloc, started, feed, pause, dial, observer);
     match feed_fault(outcome) {
         Ok(fault) => {
             let stopped = PatientSender { sender, fruitless };
             let uploaded = settle(alloc, stopped, fault, pause, dial, observer);
-            report_end(alloc, path, &uploaded, out, faults)
+            report_end(alloc, errand.path, &uploaded, out, faults)
         }
         Err(outcome) => {
             let uploaded = Uploaded { sender, outcome };
-            report_end(alloc, path, &uploaded, out, faults)
+            report_end(alloc, errand.path, &uploaded, out, faults)
         }
     }
 }

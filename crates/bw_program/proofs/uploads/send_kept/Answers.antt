@@ -28,7 +28,7 @@ returns g c =
       sent = inl (record {
         first = c.dial_paced-links.result;
         calls = c.dial_paced-links.ensures.received;
-        last = c.send_file_on.new.dial;
+        last = _;
         job = record {
           recorder = c.recorder_of.result;
           file = c.recording_of.result;
@@ -42,7 +42,7 @@ returns g c =
         };
         opened = c.states-states.result;
         kept = c.states-states.ensures;
-        left = c.send_file_on.new.states;
+        left = _;
         did = s.0;
         ends = s.1;
         is = s.2;

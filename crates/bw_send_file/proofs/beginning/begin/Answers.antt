@@ -63,7 +63,7 @@ returns-in_err-count-clause-err g c =
         knows = record {
           of_take = c.in_ok-header.ensures.ok;
           says = subst (λ (h : List ℕ).
-              IsStateFound (g.B.StateFiles.state_at c.args.states.now c.args.job.now.place.path.now) h c.in-Ok.found)
+              IsStateFound (g.B.StateFiles.state_at c.args.states.now c.args.asked.now.job.place.path.now) h c.in-Ok.found)
               c.as_slice.ensures.value c.in-Ok.ensures.found;
         };
         why = inl (b.3, record { states = c.in-Ok.ensures.kept; began = refl });
@@ -87,7 +87,7 @@ returns-clause-err g c =
         knows = record {
           of_take = c.in_ok-header.ensures.ok;
           says = subst (λ (h : List ℕ).
-              IsStateFound (g.B.StateFiles.state_at c.args.states.now c.args.job.now.place.path.now) h c.in-Ok.found)
+              IsStateFound (g.B.StateFiles.state_at c.args.states.now c.args.asked.now.job.place.path.now) h c.in-Ok.found)
               c.as_slice.ensures.value c.in-Ok.ensures.found;
         };
         why = inr (record {
@@ -102,7 +102,7 @@ returns-clause-err g c =
       w.1 ∙ ap (failures_if w.0) c.in-Ok.ensures.count,
       record {
         begun = c.begin_at.new.faults;
-        begins = subst (λ (f : _). IsPrint g.E.Sink s.0 f c.begin_at.new.faults) c.in_ok-header.ensures.quiet s.2;
+        begins = subst (λ (f : _). IsPrint g.X.Diagnostics.Sink s.0 f c.begin_at.new.faults) c.in_ok-header.ensures.quiet s.2;
         reports = r.2;
       },
     )

@@ -21,8 +21,8 @@ returns-in-Ok-true-clause-stores g c = λ done b at.
       is = r.is;
       sends = λ s before.
           let sent = c.send_feed_after.ensures s before.has in
-          rest_sent _ _ _ _ _ _ c.args.count
-          (plan (block_frames c.args.options.now r.recording.outline.format) r.recording) s _ _ _ _ sent.0
+          rest_sent _ _ _ _ _ _ c.args.rest.now.count
+          (plan (block_frames c.args.rest.now.options.now r.recording.outline.format) r.recording) s _ _ _ _ sent.0
           (c.in-Ok-true.ensures.known c.in-Ok-true.field-0-test _ r.gives) before sent.2 (sent.1 ∙ done);
     }
 
@@ -30,7 +30,7 @@ pub returns-in-Ok-true-clause-did : goal.returns-in-Ok-true-clause-did
 returns-in-Ok-true-clause-did g c =
     let w = c.warn.ensures in
     let p = passed _ _ _ _ _ _ _ c.in-Ok-true.field-0-test c.in-Ok-true.ensures.ok in
-    let s = c.send_feed_after.ensures (stored_sender c.args.job.now.recorder.name.now p.0)
+    let s = c.send_feed_after.ensures (stored_sender c.args.rest.now.job.recorder.name.now p.0)
     (record { name_is = refl; offered = p.1.many; stored = refl; unclosed = p.1.unclosed }) in (
       sent_so w.0 s.0 c.send_feed_after.result,
       refl,

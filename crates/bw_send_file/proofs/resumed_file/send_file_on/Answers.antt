@@ -39,7 +39,7 @@ returns-in-Err-begin g c =
       inr (c.in-Ok.options, c.in-Ok.ensures.ok, inl b.2),
       b.3,
       b.4,
-      continued g.W.Sink g.E.Sink b.0 _ _ _ (unsent_before _ _ _ _ _ _ _ b.2) b.5,
+      continued g.X.Output.Sink g.X.Diagnostics.Sink b.0 _ _ _ (unsent_before _ _ _ _ _ _ _ b.2) b.5,
     )
 
 pub returns : goal.returns

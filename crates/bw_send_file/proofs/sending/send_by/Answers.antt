@@ -39,7 +39,7 @@ returns-in-Ok-feed_fault g c = λ s made.
         sender = c.settle-uploaded.result.sender;
         settles = st;
         ends = r.2;
-        undone = fault_ends c.args.path.now c.in-Ok-feed_fault.fault st.rest st.went.last.filling.sender
+        undone = fault_ends c.args.begun.errand.path.now c.in-Ok-feed_fault.fault st.rest st.went.last.filling.sender
             c.settle-uploaded.result.outcome r.0 st.told r.2;
       })),
       r.3,
@@ -50,7 +50,7 @@ returns-in-Err g c = λ s made.
     let went = c.upload-sender.ensures s (rw c.in-Ok.is at made) in
     let r = c.report_end-in-Err.ensures went.last.filling.sender went.sender_is in
     let same : c.upload-sender.result.outcome ≡ c.in-Err.outcome = c.in-Err.ensures.err.0 in
-    let ends = subst (λ (o : Outcome FeedFault). EndsAfter c.args.path.now went.last.filling.sender o r.0) (sym same) r.2 in (
+    let ends = subst (λ (o : Outcome FeedFault). EndsAfter c.args.begun.errand.path.now went.last.filling.sender o r.0) (sym same) r.2 in (
       r.0,
       r.1,
       inl (record {
@@ -59,7 +59,7 @@ returns-in-Err g c = λ s made.
         went = went;
         fed = ap is_feed_fault same ∙ c.in-Err.ensures.err.1;
         ends = ends;
-        done = λ done requests left. stores_after c.args.path.now s requests went.last.filling.sender
+        done = λ done requests left. stores_after c.args.begun.errand.path.now s requests went.last.filling.sender
             c.upload-sender.result.outcome r.0 ends (went.feeds requests left) done;
       }),
       r.3,

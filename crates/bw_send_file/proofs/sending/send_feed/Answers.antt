@@ -5,5 +5,5 @@ use Rattle.bw_send_file.proofs.sending.send_feed.Goals as goal
 
 pub returns : goal.returns
 returns g c =
-    c.send_by.ensures (new_sender c.args.recorder.now.name.now)
+    c.send_by.ensures (new_sender c.args.errand.now.recorder.name.now)
     (subst (λ (n : List ℕ). IfOk c.new-sender.result (IsSender (new_sender n))) c.copy.ensures c.new-sender.ensures)
