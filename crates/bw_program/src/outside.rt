@@ -7,10 +7,10 @@ use bw_ports::{
     ReceiptKeeping, SpoolKeeping, StateKeeping, System, Watch,
 };
 use bw_progress::{BatchPart, UploadWatch};
-use bw_send_file::SendingSides;
 use bw_serve::{Opens, ServeRules};
 use bw_stream::{Sink, Source};
 use bw_takes::ScreenStyle;
+use bw_upload::SendingSides;
 use std::marker::PhantomData;
 
 /// The types of what the program works over.

@@ -26,7 +26,7 @@ use bw_serve::{
 use bw_serve_status::{Showing, serve_shown};
 use bw_session::HasTable;
 use bw_stream::Sink;
-use bw_upload::send_run;
+use bw_upload::{RoundSender, send_run};
 use std::alloc::Global;
 
 /// Serves as the command line asks for.
@@ -228,14 +228,10 @@ pub(crate) fn send_typed<X: Environment>(
     } = outside;
     note_input(*is_typed, faults);
     let mut dial = network.dial(sender.connect, sender.timeout);
-    send_run(
+    let by = RoundSender {
+        name: sender.name.copy(),
+        rounds: sender.rounds,
         alloc,
-        sender.name.copy(),
-        sender.rounds,
-        &mut dial,
-        input,
-        out,
-        faults,
-        watch,
-    )
+    };
+    send_run::<Outside<X>, X::Input, X::Watch>(by, &mut dial, input, out, faults, watch)
 }

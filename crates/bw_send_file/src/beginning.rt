@@ -19,11 +19,10 @@ use crate::reports::report_unkept;
 use crate::resumed_header::read_header;
 use crate::resumed_job::Job;
 use crate::starting::begin_at;
-use crate::way::SendingSides;
 use bw_console::Exit;
 use bw_plan::Options;
 use bw_ports::{FileStamp, RecordingFiles, StateFiles, settled_line};
-use bw_upload::Feed;
+use bw_upload::{Feed, SendingSides};
 use std::alloc::{AllocError, Global};
 use std::io;
 

@@ -11,14 +11,14 @@ ghost use Rattle.bw_send_file.specs.PlanFeeds.{feed_plan, feed_reader, feed_stam
 use crate::feed::PlanFeed;
 use crate::job::{Errand, FileJob};
 use crate::sending::send_feed;
-use crate::way::{SendingSides, Way};
+use crate::way::Way;
 use bw_console::Exit;
 use bw_plan::Options;
 use bw_ports::RecordingFiles;
 use bw_recorder::{
     NO_MEMORY, OpenFault, open_recording, read_options, refuse_options, report_open_fault, warn,
 };
-use bw_upload::{Feed, Observer};
+use bw_upload::{Feed, Observer, SendingSides};
 use std::alloc::Global;
 
 /// Sends the recording in a job's file, as `send_feed` does. What the recording loses of the

@@ -9,12 +9,12 @@ ghost use Rattle.bw_send_file.specs.PcmSendings.{IsPcmSent, OpensSamples, empty_
 
 use crate::pcm_job::PcmJob;
 use crate::pcm_sending::send_opened;
-use crate::{Errand, PlanFeed, SendingSides, Way};
+use crate::{Errand, PlanFeed, Way};
 use bw_console::Exit;
 use bw_plan::{Options, Pcm, Plan, RecordingFault, RecordingKind, block_frames};
 use bw_ports::RecordingFiles;
 use bw_recorder::{NO_MEMORY, OpenFault, read_options, refuse_options, unread};
-use bw_upload::{Feed, Observer};
+use bw_upload::{Feed, Observer, SendingSides};
 use std::alloc::Global;
 
 /// Sends the headerless samples in a job's file, as `send_feed` does. Before CLOSE the file

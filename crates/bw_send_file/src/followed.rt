@@ -11,13 +11,13 @@ use crate::marked_feed::MarkedFeed;
 use crate::pcm_feed::PcmFeed;
 use crate::pcm_job::{FollowedJob, PcmFile};
 use crate::pcm_sending::send_opened;
-use crate::{Errand, PcmRequests, SendingSides, Way};
+use crate::{Errand, PcmRequests, Way};
 use bw_console::Exit;
 use bw_live::{MarkPlace, Marking};
 use bw_plan::Options;
 use bw_ports::RecordingFiles;
 use bw_recorder::{OpenFault, read_options, refuse_options};
-use bw_upload::{Feed, Observer};
+use bw_upload::{Feed, Observer, SendingSides};
 use std::alloc::Global;
 use std::io;
 

@@ -12,14 +12,14 @@ use crate::job::{Errand, GrowingJob};
 use crate::marked_feed::MarkedFeed;
 use crate::pcm_feed::PcmFeed;
 use crate::sending::send_feed;
-use crate::way::{SendingSides, Way};
+use crate::way::Way;
 use bw_console::Exit;
 use bw_live::{GrowingFiles, Marking};
 use bw_plan::Options;
 use bw_recorder::{
     HeldHeader, NO_MEMORY, OpenFault, read_options, refuse_options, report_open_fault, warn,
 };
-use bw_upload::{Feed, Observer};
+use bw_upload::{Feed, Observer, SendingSides};
 use std::alloc::Global;
 
 /// Sends the recording in a job's WAVE file, as `send_feed` does, while another program is

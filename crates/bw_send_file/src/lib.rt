@@ -71,4 +71,4 @@ pub use resumed_opening::{Opening, opening_of};
 pub use resuming::send_feed_after;
 pub use sending::send_feed;
 pub use skipping::skip;
-pub use way::{SendingSides, Way};
+pub use way::Way;

@@ -11,14 +11,13 @@ ghost use Rattle.bw_send_file.specs.SentOn.{SendsRest};
 use crate::resumed_job::Job;
 use crate::skipping::pass_over;
 use crate::{
-    Errand, FeedFault, PlanFeed, RestErrand, SendingSides, Way, open_feed, report_file_fault,
-    send_feed_after,
+    Errand, FeedFault, PlanFeed, RestErrand, Way, open_feed, report_file_fault, send_feed_after,
 };
 use bw_console::Exit;
 use bw_plan::Options;
 use bw_ports::{FileStamp, RecordingFiles};
 use bw_recorder::{report_open_fault, warn};
-use bw_upload::{Feed, Observer};
+use bw_upload::{Feed, Observer, SendingSides};
 
 /// A recording that is sent from where its state says.
 #[derive(Clone, Copy)]

@@ -12,11 +12,11 @@ use crate::observers::Observers;
 use crate::reports::report_end;
 use crate::rest::{Rest, send_rest};
 use crate::resumed_job::Job;
-use crate::way::{SendingSides, Way};
+use crate::way::Way;
 use bw_console::Exit;
 use bw_ports::{RecordingFiles, StateKeeping};
 use bw_recorder::{read_options, refuse_options};
-use bw_upload::{Feed, Observer};
+use bw_upload::{Feed, Observer, SendingSides};
 
 /// Recordings' files, and those of their states.
 #[derive(Drop)]

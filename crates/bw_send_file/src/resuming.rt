@@ -9,10 +9,10 @@ ghost use Rattle.bw_send_file.specs.Sendings.{IsFeedSentAfter};
 use crate::fault::FeedFault;
 use crate::job::RestErrand;
 use crate::sending::{Begun, send_by};
-use crate::way::{SendingSides, Way};
+use crate::way::Way;
 use bw_console::Exit;
 use bw_sender::Sender;
-use bw_upload::{Feed, Observer};
+use bw_upload::{Feed, Observer, SendingSides};
 
 /// Sends what a feed gives as `send_feed` does, after the first `count` requests of the take, which
 /// were sent before. The premise is that all of these are stored, and that none of them is a CLOSE:
@@ -30,7 +30,8 @@ pub fn send_feed_after<F: Feed<Fault = FeedFault>, X: SendingSides, V: Observer>
 ) -> Exit
     requires { rest.now.count ≤ last_number Second + 1 }
     // With the status 0 these and all requests of the feed are stored.
-    ensures { (s : Defined) → HasStored rest.now.errand.recorder.name.now rest.now.count s → (did : Did) × (did.exit ≡ result)
+    ensures { (s : Defined) → HasStored rest.now.errand.recorder.name.now rest.now.count s →
+        (did : Did) × (did.exit ≡ result)
         × IsFeedSentAfter F.Feed X.Pause.Pause X.Dial.Dial X.Dial.Reader.Source X.Dial.Writer.Sink s
         (record {
           name = rest.now.errand.recorder.name.now;

@@ -9,11 +9,11 @@ use crate::ending::report_end;
 use crate::fault::FeedFault;
 use crate::job::Errand;
 use crate::settling::{feed_fault, settle};
-use crate::way::{SendingSides, Way};
+use crate::way::Way;
 use bw_console::print::give_up;
 use bw_console::{Exit, Fault};
 use bw_sender::Sender;
-use bw_upload::{Feed, Observer, PatientSender, Uploaded, upload};
+use bw_upload::{Feed, Observer, PatientSender, SendingSides, Uploaded, upload};
 use std::alloc::AllocError;
 
 /// Sends what a feed gives of an errand's file, and prints how many requests are
@@ -43,7 +43,11 @@ pub fn send_feed<F: Feed<Fault = FeedFault>, X: SendingSides, V: Observer>(
 ) -> Exit
     ensures { (did : Did) × (did.exit ≡ result)
         × IsFeedSent F.Feed X.Pause.Pause X.Dial.Dial X.Dial.Reader.Source X.Dial.Writer.Sink
-        (record { name = errand.now.recorder.name.now; path = errand.now.path.now; most = errand.now.recorder.fruitless })
+        (record {
+          name = errand.now.recorder.name.now;
+          path = errand.now.path.now;
+          most = errand.now.recorder.fruitless;
+        })
         feed.old feed.new (record { pause = way.entry.pause.now; dial = way.entry.dial.now })
         (record { pause = way.exit.0.now; dial = way.exit.1.0.now }) did
         × HasWritten X.Output.Sink X.Diagnostics.Sink did out.old out.new faults.old faults.new }

@@ -1,22 +1,6 @@
 //! What a recording is sent over.
-use bw_ports::{Dial, Pause};
-use bw_stream::Sink;
+use bw_upload::SendingSides;
 use std::alloc::Global;
-
-/// The types of what a recording is sent over, and where that is reported.
-pub trait SendingSides {
-    /// Waits between links.
-    type Pause: Pause;
-
-    /// Makes links.
-    type Dial: Dial;
-
-    /// Takes what is printed.
-    type Output: Sink;
-
-    /// Takes lines on faults.
-    type Diagnostics: Sink;
-}
 
 /// What a recording is sent over.
 #[derive(Drop)]

@@ -12,6 +12,7 @@ ghost use Rattle.bw_upload.specs.Sends.{IsPrintOfSend, IsSendRun, ReportsOfExit}
 use crate::dispatch::{Dispatch, exit_after};
 use crate::requests::read_requests;
 use crate::rounds::make_rounds;
+use crate::sides::SendingSides;
 use crate::text::text_of_sender;
 use bw_console::print::{give_up, print, print_diagnostic};
 use bw_console::{Exit, Fault};
@@ -23,6 +24,17 @@ use std::alloc::{AllocError, Global};
 
 /// The report on a sender that isn't done.
 const UNSETTLED: &str = "not every request has its verdict yet\n";
+
+/// Who sends in rounds.
+#[derive(Drop)]
+pub struct RoundSender {
+    /// The name of its take.
+    pub name: Name,
+    /// How many rounds it makes at most.
+    pub rounds: u32,
+    /// Its memory.
+    pub alloc: Global,
+}
 
 /// Sends the requests in the lines of the input, as a recorder of this name, writes the outcome as
 /// text, and reports its progress to a watcher after each round.
@@ -39,27 +51,24 @@ const UNSETTLED: &str = "not every request has its verdict yet\n";
 /// - When memory is refused, and what was sent and settled before it: nothing is printed of that.
 /// - Which round found no link.
 /// - That the watcher gets a report of each round, with its number.
-pub fn send_run<D: Dial, R: Source, W: Sink, E: Sink, V: Watch>(
-    alloc: Global,
-    name: Name,
-    rounds: u32,
-    dial: &mut D,
+pub fn send_run<X: SendingSides, R: Source, V: Watch>(
+    sender: RoundSender,
+    dial: &mut X::Dial,
     input: &mut R,
-    out: &mut W,
-    faults: &mut E,
+    out: &mut X::Output,
+    faults: &mut X::Diagnostics,
     watch: &mut V,
 ) -> Exit
     // It is so whoever watches.
     ensures did { (did : Outcome) × (did.exit ≡ result)
-        × IsSendRun D.Dial D.Reader.Source D.Writer.Sink name rounds (R.left input.old)
-        dial.old dial.new did
+        × IsSendRun X.Dial.Dial X.Dial.Reader.Source X.Dial.Writer.Sink sender.name sender.rounds
+        (R.left input.old) dial.old dial.new did
         × (R.failures input.new ≡ failures_if did.reads_all (R.failures input.old))
-        × HasWritten W.Sink E.Sink did out.old out.new faults.old faults.new }
+        × HasWritten X.Output.Sink X.Diagnostics.Sink did out.old out.new faults.old faults.new }
     ensures within { Of (R.left input.old) (λ xs. IsReadAhead xs (R.left input.new)) }
     ensures most { R.moved input.new ≤ R.moved input.old + (longest_input + 1) }
 {
-    let sender = RoundSender { name, rounds };
-    match send(alloc, sender, input, dial, out, watch) {
+    match send(sender, input, dial, out, watch) {
         Ok(exit) => report_of_exit(exit, faults),
         Err(fault) => give_up(faults, &fault),
     }
@@ -78,16 +87,8 @@ fn report_of_exit<E: Sink>(exit: Exit, faults: &mut E) -> Exit
     exit
 }
 
-/// Who sends in rounds, and in how many at most.
-#[derive(Drop)]
-struct RoundSender {
-    name: Name,
-    rounds: u32,
-}
-
 /// Sends the requests in the lines of the input, and writes the outcome as text.
 fn send<D: Dial, R: Source, W: Sink, V: Watch>(
-    alloc: Global,
     sender: RoundSender,
     input: &mut R,
     dial: &mut D,
@@ -102,7 +103,11 @@ fn send<D: Dial, R: Source, W: Sink, V: Watch>(
         (R.left input.old) dial.old dial.new result print
         × IsPrint W.Sink print out.old out.new }
 {
-    let RoundSender { name, rounds } = sender;
+    let RoundSender {
+        name,
+        rounds,
+        alloc,
+    } = sender;
     let requests = read_requests(alloc, input)?;
     let dispatch = send_requests(alloc, name, rounds, requests.as_slice(), dial, watch)?;
     let text = text_of_sender(alloc, &dispatch.sender)?;
