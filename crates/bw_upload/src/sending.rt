@@ -36,7 +36,7 @@ pub struct RoundSender {
     pub alloc: Global,
 }
 
-/// Sends the requests in the lines of the input, as a recorder of this name, writes the outcome as
+/// Sends the requests in the lines of the input, as the recorder of this take, writes the outcome as
 /// text, and reports its progress to a watcher after each round.
 ///
 /// All lines are read before the first link is made. `Done` if each line's request is settled and
