@@ -2,5 +2,5 @@
 
 /// The toolchain, and the SHA-256 digest of the sources, a line each.
 pub const BUILD: &str = "toolchain: rattle-kit-13f logic dac8208d650f15bf
-sources: e0e0ce8ef078daef7c4cc5d552e29b54ed6d2df3028eadd27766f6d5087f3505
+sources: 65eee67389b53bf781b5ce2626834c1c0273e1af1474242a1a8708ed0fc4afec
 ";
