@@ -12,7 +12,7 @@ use Rattle.bw_plan.specs.Recordings.{Options, Recording, block_frames, recording
 use Rattle.bw_ports.specs.declared.dial.Dial.{Ghosts as DialGhosts}
 use Rattle.bw_ports.specs.declared.pause.Pause.{Ghosts as PauseGhosts}
 use Rattle.bw_recorder.specs.FileReports.{warnings_in}
-use Rattle.bw_recorder.specs.HeldHeaders.{IsHeaderOf}
+use Rattle.bw_recorder.specs.HeldHeaders.{IsStateHeader}
 use Rattle.bw_recorder.specs.Openings.{RefusesAs, is_well_at}
 use Rattle.bw_recorder.specs.Packs.{IsOpenReport, IsReportedText, Packing, RefusesSettings, RunsOutOfMemory}
 use Rattle.bw_recorder.specs.SettingLists.{options_of}
@@ -49,7 +49,7 @@ header_searched Other b = b
 -- these first bytes have this header
 pub record IsHeaderWithin (b : List ℕ) (o : Options) (h : GrowingHeader) : Type 0 where
   pub found : data_search b ≡ Found h.place
-  pub header : IsHeaderOf (bare_header b h.place) o h.header
+  pub header : IsStateHeader (bare_header b h.place) o h.header
 
 -- why they have none: with none of the faults of a recording only if they don't reach the samples
 abbrev pub RefusesIn : List ℕ → Options → OpenFault → Type 0
