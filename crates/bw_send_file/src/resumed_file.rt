@@ -33,7 +33,8 @@ pub struct KeptFiles<'a, F: RecordingFiles + StateKeeping> {
 /// the premise is that this command wrote it, and that the server has kept what it stored.
 ///
 /// Once the file is open, the watch learns of it. Then the server is asked which number it expects
-/// next: if that is less, or the state is another one, all is sent again. Where it begins is reported first, unless there was no state.
+/// next: if that is less, or the state is another one, all is sent again. Where it begins is reported
+/// first, unless there was no state.
 ///
 /// `Done` only if the feed has ended, each of its requests was offered, those after the first ones
 /// are stored, and the state was kept. Otherwise as `send_file`; besides, `Device` if the state

@@ -25,7 +25,7 @@ pub returns-in-Ok : goal.returns-in-Ok
 returns-in-Ok g c =
     let l = c.give_up.ensures.line in (
       c.give_up.result,
-      c.from-in-Err.ensures ∙ c.status-in-Err.ensures,
+      c.from-in-Err-parse.ensures ∙ c.status-in-Err-parse.ensures,
       reported-words _ _ _ _ _ _ _ _ _ _ _ _ _ _
           (λ reported e. ap (map string_bytes) c.as_slice.ensures.value ∙ c.in-Ok.ensures.ok reported e)
           c.in-Ok.ensures.files c.in-Ok.ensures.count
@@ -37,7 +37,7 @@ pub returns : goal.returns
 returns g c =
     let l = c.report_bad_argv.ensures in (
       c.report_bad_argv.result,
-      c.from-in-Err-words.ensures ∙ c.status-in-Err-words.ensures,
+      c.from-in-Err.ensures ∙ c.status-in-Err.ensures,
       inr (record {
         does = record {
           did = l.0;

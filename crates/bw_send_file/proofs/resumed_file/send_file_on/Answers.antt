@@ -66,7 +66,8 @@ returns-in-Err-begin g c =
           ∙ ap (λ (well : Bool). failures_if well (g.F.RecordingFiles.failures c.args.kept.files.now)) (sym b.2),
       b.4,
       continued g.X.Output.Sink g.X.Diagnostics.Sink b.0 _ _ _ (unsent_before _ _ _ _ _ _ _ stops)
-          (subst (λ (f : _). HasReported g.X.Diagnostics.Sink b.0 f c.begin.new.faults) c.in-Ok-read_header.ensures.quiet b.5),
+          (subst (λ (f : _). HasReported g.X.Diagnostics.Sink b.0 f c.begin.new.faults)
+          c.in-Ok-read_header.ensures.quiet b.5),
     )
 
 pub returns : goal.returns
@@ -106,5 +107,12 @@ returns g c =
       ),
       s.3 ∙ ap (failures_if s.0.is_system_well) c.in-Ok-read_header.ensures.well,
       b.2,
-      record { begun = c.begin.new.faults; begins = subst (λ (f : _). IsPrint g.X.Diagnostics.Sink b.0 f c.begin.new.faults) c.in-Ok-read_header.ensures.quiet b.3; sent = c.send_rest-exit.new.faults; sends = s.4; ends = e.1 },
+      record {
+        begun = c.begin.new.faults;
+        begins = subst (λ (f : _). IsPrint g.X.Diagnostics.Sink b.0 f c.begin.new.faults)
+            c.in-Ok-read_header.ensures.quiet b.3;
+        sent = c.send_rest-exit.new.faults;
+        sends = s.4;
+        ends = e.1;
+      },
     )
