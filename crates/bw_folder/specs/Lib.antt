@@ -4,6 +4,7 @@ pub mod SyncOrders
 pub mod FileNotes
 pub mod PendingNotes
 pub mod TakeFolders
+pub mod Guards
 pub mod JournalFolders
 pub mod Commits
 pub mod FolderDisks

@@ -2,11 +2,12 @@
 ghost use Rattle.std.specs.Prelude.{◌≡◌, ◌<◌, ℕ, List, [], true, IsTrue, IsErr, IfOk, OnOk, OnErr};
 ghost use Rattle.std.specs.Prelude.{IsSome, IfSome, None, false, ◌↔◌, is_err, string_bytes, length};
 ghost use Rattle.std.specs.List.{All, Contains, HoldsAt};
-ghost use Rattle.bw_store.specs.Stores.{Counts, Creates, Written, MayTear, KeepsOthers};
+ghost use Rattle.bw_store.specs.Stores.{Counts, Creates, Written, MayTear, KeepsOthers, KeepsSurviving};
 ghost use Rattle.bw_disk.specs.Disks.{IsOneCall, AsksOnce, Syncs};
 ghost use Rattle.bw_folder.specs.Folders.{take_path as path_of_take, take_content, open_names};
 ghost use Rattle.bw_folder.specs.Folders.{opened_by, closed_by};
 
+use crate::guarding::{Guard, is_guarded};
 use crate::paths::take_path;
 use bw_disk::{Disk, SystemDisk};
 use bw_model::Name;
@@ -19,6 +20,8 @@ use std::fs::Files;
 pub(crate) struct OpenTake<F: Drop> {
     pub(crate) name: Name,
     pub(crate) file: F,
+    /// What is written no more.
+    pub(crate) guard: Guard,
 }
 
 /// The files `NAME.wav` of one folder.
@@ -176,7 +179,11 @@ impl<D: Disk> FolderStore<D> {
         };
         let name = name.copy();
         self.takes
-            .push(OpenTake { name, file })
+            .push(OpenTake {
+                name,
+                file,
+                guard: Guard::NONE,
+            })
             .map_err(|_| StoreFault)?;
         Ok(Created::New)
     }
@@ -187,6 +194,7 @@ impl<D: Disk> TakeStore for FolderStore<D> {
     ghost use Rattle.bw_folder.specs.TakeFolders.{takes_calls, takes_failures, take_in_folder};
     ghost use Rattle.bw_folder.specs.TakeFolders.{synced_in_folder, have_stopped, marked_if};
     ghost use Rattle.bw_folder.specs.TakeFolders.{takes_failed_sync, takes_retry, KeepsSyncs};
+    ghost use Rattle.bw_folder.specs.Guards.{survives_in, is_guarded_in};
 
     ghost contents = { take_in_folder };
 
@@ -197,6 +205,8 @@ impl<D: Disk> TakeStore for FolderStore<D> {
     ghost honest = { λ s. D.honest (takes_disk s) };
 
     ghost folder = { takes_folder };
+
+    ghost survives = { survives_in };
 
     /// Makes the file FOLDER/NAME.wav, by one call of the disk.
     ///
@@ -212,6 +222,8 @@ impl<D: Disk> TakeStore for FolderStore<D> {
         ensures calls { Counts (takes_calls self.old) (takes_calls self.new) true }
         ensures folder { takes_folder self.new ≡ takes_folder self.old }
         ensures honest { D.honest (takes_disk self.new) ≡ D.honest (takes_disk self.old) }
+        ensures survives { IsTrue (D.honest (takes_disk self.old)) →
+            KeepsSurviving (survives_in self.old) (survives_in self.new) }
         // Over an honest disk a name's content is the file FOLDER/NAME.wav.
         ensures created { IsTrue (D.honest (takes_disk self.old)) → IfOk result (λ c. Creates c
             (take_in_folder self.old name.now) (take_in_folder self.new name.now)) }
@@ -236,8 +248,8 @@ impl<D: Disk> TakeStore for FolderStore<D> {
     /// Writes to a file that this store made or reopened, by one call of the disk.
     ///
     /// # Errors
-    /// `StoreFault` if that call failed, and for a name that this store neither made nor reopened,
-    /// or has finished: the disk isn't called then.
+    /// `StoreFault` if that call failed, for a name that this store neither made nor reopened, or has
+    /// finished, and if a byte would change that is guarded: the disk isn't called then.
     #[tactic(auto, using(crate::proofs::TakePaths::take_path_injective))]
     fn write_at(&mut self, name: &Name, offset: u64, bytes: &[u8]) -> Result<(), StoreFault>
         ensures failures { Counts (takes_failures self.old) (takes_failures self.new)
@@ -245,6 +257,8 @@ impl<D: Disk> TakeStore for FolderStore<D> {
         ensures calls { Counts (takes_calls self.old) (takes_calls self.new) true }
         ensures folder { takes_folder self.new ≡ takes_folder self.old }
         ensures honest { D.honest (takes_disk self.new) ≡ D.honest (takes_disk self.old) }
+        ensures survives { IsTrue (D.honest (takes_disk self.old)) →
+            KeepsSurviving (survives_in self.old) (survives_in self.new) }
         ensures written { IsTrue (D.honest (takes_disk self.old)) → OnOk result (Written
             (take_in_folder self.old name.now) offset bytes.now
             (take_in_folder self.new name.now)) }
@@ -259,8 +273,12 @@ impl<D: Disk> TakeStore for FolderStore<D> {
             (path : List ℕ) → D.synced (takes_disk self.new) path
             ≡ D.synced (takes_disk self.old) path }
         ensures own { Contains (open_takes self.old) name.now →
+            is_guarded_in self.old name.now offset (length bytes.now) ≡ false →
             IsOneCall D.calls D.failures (takes_disk self.old) (takes_disk self.new)
             (is_err result) }
+        // What is guarded isn't written, and the disk isn't called.
+        ensures guarded { IsTrue (is_guarded_in self.old name.now offset (length bytes.now)) →
+            IsErr result × (takes_disk self.new ≡ takes_disk self.old) }
         ensures foreign { (Contains (open_takes self.old) name.now → ⊥) →
             IsErr result × (takes_disk self.new ≡ takes_disk self.old) }
         ensures opened { open_takes self.new ≡ open_takes self.old }
@@ -270,6 +288,10 @@ impl<D: Disk> TakeStore for FolderStore<D> {
             self.call_counter.count(true);
             return Err(StoreFault);
         };
+        if is_guarded(&self.takes, name, offset, bytes.len()) {
+            self.call_counter.count(true);
+            return Err(StoreFault);
+        }
         let take = &mut self.takes[place];
         let answer = self
             .disk
@@ -292,6 +314,8 @@ impl<D: Disk> TakeStore for FolderStore<D> {
         ensures calls { Counts (takes_calls self.old) (takes_calls self.new) true }
         ensures folder { takes_folder self.new ≡ takes_folder self.old }
         ensures honest { D.honest (takes_disk self.new) ≡ D.honest (takes_disk self.old) }
+        ensures survives { IsTrue (D.honest (takes_disk self.old)) →
+            KeepsSurviving (survives_in self.old) (survives_in self.new) }
         // No content changes.
         ensures unchanged { IsTrue (D.honest (takes_disk self.old)) →
             (path : List ℕ) → D.contents (takes_disk self.new) path

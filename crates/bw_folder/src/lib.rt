@@ -7,6 +7,7 @@ mod committing;
 mod file_notes;
 mod finishing;
 mod folder;
+mod guarding;
 mod heading;
 mod journal;
 pub mod laws;

@@ -10,6 +10,7 @@ ghost use Rattle.bw_folder.specs.Folders.{found_by, names_but};
 ghost use Rattle.bw_folder.specs.Journals.{adopted_by, adopted_header, existence_of};
 
 use crate::folder::{FolderStore, OpenTake};
+use crate::guarding::Guard;
 use crate::journal::{FolderJournal, OpenJournal};
 use crate::noting::find;
 use crate::paths::{journal_path, take_path};
@@ -71,7 +72,11 @@ impl<D: Volume> FolderStore<D> {
         };
         let name = name.copy();
         self.takes
-            .push(OpenTake { name, file })
+            .push(OpenTake {
+                name,
+                file,
+                guard: Guard::NONE,
+            })
             .map_err(|_| ReadFault::Memory)?;
         Ok(true)
     }

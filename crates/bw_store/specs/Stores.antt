@@ -1,6 +1,6 @@
 -- What the calls of a store leave.
 use Rattle.std.specs.Prelude.{◌≡◌, ◌≢◌, ℕ, ◌+◌, ◌-◌, ◌<◌, ◌≤◌, min, max, List, [], ◌∷◌, ◌++◌}
-use Rattle.std.specs.Prelude.{length, take, drop, slice_index, Option, Some, None, IsSome}
+use Rattle.std.specs.Prelude.{length, take, drop, slice_index, Option, Some, None, IsSome, Bool, IsTrue}
 use Rattle.bw_model.specs.Bytes.{zeros}
 pub use Rattle.bw_model.specs.Counts.{Counts, last_count}
 use Rattle.bw_store.specs.declared.store.Created.{Created}
@@ -45,3 +45,8 @@ MayTear before place n after =
 abbrev pub KeepsOthers :
     (List ℕ → Option (List ℕ)) → (List ℕ → Option (List ℕ)) → List ℕ → Type 0
 KeepsOthers before after name = (other : List ℕ) → other ≢ name → after other ≡ before other
+
+-- What survives a loss of power, by name, place and bytes, still does.
+abbrev pub KeepsSurviving : (List ℕ → ℕ → List ℕ → Bool) → (List ℕ → ℕ → List ℕ → Bool) → Type 0
+KeepsSurviving before after = (name : List ℕ) (place : ℕ) (bytes : List ℕ) →
+    IsTrue (before name place bytes) → IsTrue (after name place bytes)

@@ -1,7 +1,7 @@
 //! Where takes are kept: contents by name.
 ghost use Rattle.std.specs.Prelude.{◌≡◌, ℕ, List, Bool, Option, None, true, length, IsTrue, IfOk};
-ghost use Rattle.std.specs.Prelude.{OnOk, OnErr, is_err, [], ◌∷◌};
-ghost use Rattle.bw_store.specs.Stores.{Counts, Creates, Written, MayTear, KeepsOthers};
+ghost use Rattle.std.specs.Prelude.{OnOk, OnErr, is_err, [], ◌∷◌, false};
+ghost use Rattle.bw_store.specs.Stores.{Counts, Creates, Written, MayTear, KeepsOthers, KeepsSurviving};
 ghost use Rattle.bw_store.specs.Calls.{StoreCall, Create, WriteAt, Finish, Asks};
 
 use bw_model::Name;
@@ -47,6 +47,10 @@ pub trait TakeStore: Drop {
     /// implementation doesn't define it.
     ghost folder: { Self → List ℕ } = { λ _. [] };
 
+    /// Whether a name has these bytes from a place on, and has them still after a loss of power; no
+    /// bytes do where an implementation doesn't define it.
+    ghost survives: { Self → List ℕ → ℕ → List ℕ → Bool } = { λ _ _ _ _. false };
+
     /// Makes a name with empty contents, unless it is there already.
     ///
     /// # Errors
@@ -61,6 +65,8 @@ pub trait TakeStore: Drop {
         ensures asked { Asks (Create name.now ∷ []) (asked self.old) (asked self.new) }
         ensures honest { honest self.new ≡ honest self.old }
         ensures folder { folder self.new ≡ folder self.old }
+        ensures survives { IsTrue (honest self.old) →
+            KeepsSurviving (survives self.old) (survives self.new) }
         ensures created { IsTrue (honest self.old) →
             IfOk result (λ c. Creates c (contents self.old name.now) (contents self.new name.now)) }
         ensures failed { IsTrue (honest self.old) →
@@ -83,6 +89,8 @@ pub trait TakeStore: Drop {
             (asked self.old) (asked self.new) }
         ensures honest { honest self.new ≡ honest self.old }
         ensures folder { folder self.new ≡ folder self.old }
+        ensures survives { IsTrue (honest self.old) →
+            KeepsSurviving (survives self.old) (survives self.new) }
         ensures written { IsTrue (honest self.old) → OnOk result
             (Written (contents self.old name.now) offset bytes.now (contents self.new name.now)) }
         ensures failed { IsTrue (honest self.old) → OnErr result (MayTear
@@ -105,6 +113,8 @@ pub trait TakeStore: Drop {
         ensures asked { Asks (Finish name.now ∷ []) (asked self.old) (asked self.new) }
         ensures honest { honest self.new ≡ honest self.old }
         ensures folder { folder self.new ≡ folder self.old }
+        ensures survives { IsTrue (honest self.old) →
+            KeepsSurviving (survives self.old) (survives self.new) }
         ensures unchanged { IsTrue (honest self.old) →
             (other : List ℕ) → contents self.new other ≡ contents self.old other };
 }
