@@ -21,7 +21,7 @@ const LONGEST_DRAIN: u64 = 2_000;
 pub enum ConnectionEnd {
     /// The exchange over it ended like this; with `TurnLimit` if more than 2^62 bytes came.
     Over(ExchangeEnd),
-    /// No whole frame came for too long.
+    /// No frame was answered for too long, and none was held that the next quantum would answer.
     Idle,
 }
 
@@ -46,7 +46,7 @@ pub(crate) struct Connection<L> {
     readable: bool,
     /// Whether there may be room to write: until the link says that there is none.
     writable: bool,
-    /// When its last whole frame was answered, or since when it drains, in milliseconds.
+    /// When it began, or its last whole frame was answered, or since when it drains, in milliseconds.
     since: u64,
 }
 
@@ -122,7 +122,8 @@ impl<L: Link> Connection<L> {
     }
 
     /// How long it is quiet at time `now`, in milliseconds: not at all if it holds a whole frame that
-    /// the next quantum answers.
+    /// the next quantum answers, since that wait is the server's. While replies wait a held frame doesn't
+    /// count: else a peer that reads none of them would be kept forever.
     fn silence(&self, now: u64) -> u64
         ensures { result ≡ silence_of now self.now }
     {
@@ -140,8 +141,8 @@ impl<L: Link> Connection<L> {
         quiet
     }
 
-    /// How it ends at time `now`, if nothing has been answered for longer than `idle` milliseconds,
-    /// or it has been drained for long enough.
+    /// How it ends at time `now`, if it is quiet for longer than `idle` milliseconds, or was drained for
+    /// long enough.
     pub(crate) fn expired(&self, now: u64, idle: u64) -> Option<ConnectionEnd>
         ensures { result ≡ expired_at now idle self.now }
     {

@@ -223,6 +223,7 @@ impl<L: Link + Drop> Connections<L> {
         // What continues made progress, or its link reported none now; none ends here for silence.
         ensures { WorksAt L.Link T.answers place now result self.old self.new server.old server.new }
     {
+        // Most places rest in most rounds: nothing is moved out and back for these.
         if self.rests(place) {
             return None;
         }
@@ -261,6 +262,7 @@ impl<L: Link + Drop> Connections<L> {
         ensures stands { ExistedAt place self.old self.new }
         ensures left { IfSome result (λ x. IsEmpty place self.new) }
     {
+        // Few ever expire: nothing is moved out and back for the others.
         if self.expired_at(place, now, idle).is_none() {
             return None;
         }

@@ -1,4 +1,5 @@
-//! Digests of what connections hold, computed at once over all of them.
+//! Digests of what connections hold, computed at once over all of them: a server that keeps up with
+//! live recorders holds one message of each, which alone would leave seven of the eight lanes empty.
 ghost use Rattle.std.specs.Prelude.{◌≡◌, ◌<◌};
 ghost use Rattle.bw_wire.specs.BodyDigests.{IsDigestOf, AreDigestsOf};
 ghost use Rattle.bw_connections.specs.HeldBodies.{AreBodiesOf, body_held, body_there};
@@ -65,7 +66,7 @@ impl<L: Link + Drop> Connections<L> {
     }
 
     /// Adds the first bodies that the connection at a place holds to a batch, which is hashed each
-    /// time that it is full.
+    /// time that it is full. They are at most eight: so many digests a framer keeps.
     fn hash_at(&mut self, place: usize, batch: &mut Batch)
         ensures { self.new ≡ self.old }
     {
@@ -108,6 +109,8 @@ impl<L: Link + Drop> Connections<L> {
         let Some(digests) = digests_at_once(&self.bodies_of(&batch.bodies)) else {
             return;
         };
+        // In a batch that isn't full the other lanes have an empty body at the first place: its digest
+        // is right too, and is never asked for.
         for lane in 0..LANES {
             self.keep_digest(batch.bodies[lane], digests[lane]);
         }

@@ -25,7 +25,8 @@ pub(crate) struct Shut;
 pub(crate) struct Round<'a> {
     /// The time, in milliseconds.
     pub(crate) time: u64,
-    /// After how many milliseconds without an answered frame a connection is ended.
+    /// After how many milliseconds without an answered frame a connection is ended, unless it holds
+    /// one that its next quantum answers.
     pub(crate) idle: u64,
     /// Which names may come from which addresses.
     pub(crate) allow: &'a AllowList,
@@ -332,7 +333,7 @@ impl<L: Link + Drop> EventLoop<L> {
         };
         swap_at(&mut self.peer_slots, place, server);
         let buffer = self.buffer.as_mut_slice();
-        // a connection takes no longer pieces
+        // The buffer has just this length, as it was made; no invariant says so.
         let room = buffer.len().min(MESSAGE_PIECE);
         let closed = work_guarded(
             &mut self.connections,

@@ -29,7 +29,8 @@ pub struct Bounds {
     pub places: usize,
     /// How many in all.
     pub exchanges: u64,
-    /// A connection of which no frame was answered for longer than this, in milliseconds, is ended.
+    /// A connection of which no frame was answered for longer than this, in milliseconds, is ended,
+    /// unless it holds one that its next quantum answers.
     pub idle: u64,
 }
 
@@ -57,17 +58,17 @@ pub struct Terms<'a> {
 /// Each link that the reactor gives is at the place for which it was given, or over; one for which
 /// memory is refused is closed and counted.
 ///
-/// A message whose name `allow` doesn't allow from its peer's address is answered `TableFull`, and
-/// an ask `Next`, both with next 0, and the server isn't given it.
+/// A message whose name `terms.allow` doesn't allow from its peer's address is answered `TableFull`,
+/// and an ask `Next`, both with next 0, and the server isn't given it.
 ///
-/// With `log` each connection that is over is a line on `faults` too: `peer ADDRESS names NAME..
+/// With `terms.log` each connection that is over is a line on `faults` too: `peer ADDRESS names NAME..
 /// end END messages N bytes N`, with the first eight names of its messages. If memory is refused
 /// for the line, it is left out.
 ///
 /// # Not specified
 /// - That each was reported under its own place.
 /// - When memory is refused.
-/// - With `log`, when a line is missing.
+/// - With `terms.log`, when a line is missing.
 pub fn run_event_loop<B: Reactor, T: Turns, O: Sink, E: Sink>(
     terms: &Terms<'_>,
     server: &mut Metered<T>,

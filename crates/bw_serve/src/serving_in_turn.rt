@@ -36,15 +36,15 @@ pub struct TermsInTurn<'a> {
 /// only that exchange ends, and it counts. `Done` after the last one; `Memory` if memory was refused
 /// to one; `Device` if no more peers are accepted, or a sync failed in a commit.
 ///
-/// A message whose name `allow` doesn't allow from its peer's address is answered `TableFull`, and
-/// an ask `Next`, both with next 0, and the server isn't given it.
+/// A message whose name `terms.allow` doesn't allow from its peer's address is answered `TableFull`,
+/// and an ask `Next`, both with next 0, and the server isn't given it.
 ///
-/// With `log` each link is a line on `faults` too: `peer ADDRESS names NAME.. end END messages N
+/// With `terms.log` each link is a line on `faults` too: `peer ADDRESS names NAME.. end END messages N
 /// bytes N`, with the first eight names of its messages.
 ///
 /// # Not specified
 /// - When an `accept` fails.
-/// - With `log`, when the line of a link is missing: for lack of memory, or for no cause.
+/// - With `terms.log`, when the line of a link is missing: for lack of memory, or for no cause.
 pub fn serve_run<P: Peers, T: Turns, O: Sink, E: Sink>(
     terms: &TermsInTurn<'_>,
     server: &mut Metered<T>,
