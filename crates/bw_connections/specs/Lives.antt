@@ -127,11 +127,11 @@ pub record Moved {L : Type 0} (G : LinkGhosts L) (c : Connection L) (answered : 
       (1 ≤ length piece) ⊎ (is_some (end_of c'.exchange) ≡ true) ⊎ IsDry G c'
   -- while replies wait nothing is read
   pub held : 1 ≤ length left → piece ≡ []
-  -- Fewer frames than a quantum were answered only if the exchange had to wait then, before that
-  -- piece was fed.
+  -- the exchange after these frames were answered, before that piece was fed
   pub between : Exchange
   pub answers : DoesMore c.exchange [] answered bytes between
   pub feeds : DoesMore between piece [] [] c'.exchange
+  -- fewer frames than a quantum were answered only if it had to wait then
   pub waits : length answered < quantum → MustWait between
   -- some went where replies waited, if there might be room, or there is none now
   pub sends : c.writable ≡ true → 1 ≤ length (waiting_in c.exchange) → (1 ≤ length bytes)
