@@ -17,7 +17,8 @@ pub record HasPrefix (longest : ℕ) (bytes : List ℕ) (len : ℕ) : Type 0 whe
   pub short : len ≤ longest
   pub whole : 4 + len ≤ length bytes
 
--- whether more bytes decide nothing of the first frame, by what is wrong with the bytes
+-- whether the first frame is decided, by what is wrong with the bytes: only missing ones leave it
+-- open
 abbrev pub is_whole_by : Option Reason → Bool
 is_whole_by (Some Cut) = false
 is_whole_by _ = true

@@ -52,6 +52,9 @@ pub(crate) fn held_body(bytes: &[u8], from: usize) -> Option<HeldBody> {
 
 /// The digests of up to eight bodies, if it is faster to compute them at once than one after
 /// another. If there are fewer bodies, the others are empty.
+///
+/// # Not specified
+/// When that is so: a message's `digest` doesn't depend on it.
 pub fn digests_at_once(bodies: &[&[u8]; LANES]) -> Option<[[u8; 32]; LANES]>
     ensures { IfSome result (λ digests. AreDigestsOf bodies.now digests) }
 {
@@ -109,7 +112,8 @@ impl BodyDigests {
         all
     }
 
-    /// The first lane with the same body as that before all others, or one before it.
+    /// The first lane that holds nothing of its own, if there is one. New digests have their body in
+    /// every lane, and later bodies lie after it: so a lane with its place, or one before it, is free.
     fn free_lane(&self) -> Option<usize>
         ensures { IfSome result (λ lane. lane < 8) }
     {
@@ -142,7 +146,8 @@ impl BodyDigests {
     }
 }
 
-/// These digests, if one of them is of a body after `start`, and that of one more body.
+/// These digests and that of one more body; of that alone if all of them are used up, since none is
+/// of a body after `start`.
 pub(crate) fn with_digest(
     digests: &Option<BodyDigests>,
     start: usize,

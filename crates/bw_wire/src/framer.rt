@@ -91,9 +91,9 @@ impl Framer {
         self.intake.feed(piece)
     }
 
-    /// Computes the digests of the bodies of up to eight whole frames that are held, at once, if
-    /// they aren't known and that is faster than one after another. Their messages are given with
-    /// them.
+    /// Computes the digests of the bodies of up to eight whole frames that are held, at once, if none
+    /// of those that are left is known and that is faster than one after another. Their messages are
+    /// given with them.
     ///
     /// # Not specified
     /// Which digests are computed: a message's `digest` doesn't depend on it.
@@ -119,7 +119,8 @@ impl Framer {
         }
     }
 
-    /// The body of the first whole frame from a place on. Places count from the first byte that isn't used up.
+    /// The body of the first whole frame from a place on. Places count from the first byte that isn't
+    /// used up.
     ///
     /// # Not specified
     /// Which body it is, if any: a message's `digest` doesn't depend on it.
