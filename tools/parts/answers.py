@@ -1,67 +1,57 @@
-"""Written answers for goals that a check closes by itself: with one, a wrong body is refused there at little cost."""
-import contextlib
+"""Answers with a step limit, for goals of copies of functions; and the lines that name such goals."""
 import re
 from dataclasses import replace
 
 # Within few steps a goal that holds is still proved, and one that doesn't is refused before its declaration is tried
-# again with more definitions opened. That the call itself broke off at the limit is no refusal: nothing is known then.
+# again with more definitions opened. That the call itself breaks off at the limit is no refusal: nothing is known then.
 CALL = "search rules steps 300000"
-LEAST = 1  # processor seconds that a function's answers save, or they aren't worth their lines
-RULES = "use Rattle.std.proofs.Common.{rules}\n"
-REFUSED = re.compile(r"(?m)^(?:\./)?proofs/(\S+)/Answers\.antt:\d+:\d+: error: `([^`]+)`")
+ANSWERS = """use Rattle.std.proofs.Common.{{rules}}
+use {module}.Goals as goal
+"""
+ERROR = r"(?m)^(?:\./)?proofs/(\S+)/Answers\.antt:\d+:\d+: error: "
+REFUSED = re.compile(ERROR + r"`([^`]+)`")
+UNCHECKED = re.compile(ERROR + r".*not checked: (.*)")
 
 
-def with_answers(text, module, names, arguments):
-    """The text of a function's answers with one more for each of these goals, which take these arguments."""
-    uses = "" if re.search(r"(?m)^use .*[{ ]rules[,}]", text) else RULES
-    goals = "" if "Goals as goal\n" in text else f"use {module}.Goals as goal\n"
-    added = "".join(f"\npub {name} : goal.{name}\n{name} {arguments} = {CALL}\n" for name in sorted(names))
-    return f"{uses}{goals}{text}{added}"
+def at_goals_of(body, sources):
+    """A body that names goals, with those that answers are written for, or else limited; or why it can't be tried so."""
+    if not body.may_name_goals:
+        return "it names a goal, and changes or is refused by more than one function"
+    answered = body.goals & sources.answered(*body.changed)
+    if not answered and not sources.can_be_copied(body):
+        return f"no answer of its function, of which no copy can be, has the name {min(body.goals)}"
+    return replace(body, goals=answered or body.goals, is_limited=not answered)
 
 
-class Answers:
-    """The answers of a crate's functions that are to be added, by the function: the goals' names."""
+def rights_of(bodies):
+    """A copy of each function as it is that bodies with limited answers are tried at: its goals are theirs."""
+    found = {}
+    for body in (it for it in bodies if it.is_limited):
+        found.setdefault(body.copy_of, []).append(body)
+    for function, its in found.items():
+        clauses = frozenset().union(*(it.clauses for it in its)) if all(it.clauses for it in its) else frozenset()
+        goals = frozenset().union(*(it.goals for it in its))
+        right = replace(its[0], changes=(), changed=frozenset([function]), clauses=clauses, goals=goals)
+        yield right.in_copy("as_it_is")
 
-    def __init__(self, trial, goals):
-        self.trial, self.goals = trial, {path: {*names} for path, names in goals.items()}
-        files = {path: trial.sources.crate.joinpath("proofs", *path.split("::"), "Answers.antt") for path in goals}
-        self.files = {path: (file, file.read_text() if file.exists() else "") for path, file in files.items()}
 
-    def write(self):
-        for path, (file, text) in self.files.items():
-            if names := self.goals[path]:
-                module = ".".join(["Rattle", self.trial.crate.name, "proofs", *path.split("::")])
-                file.parent.mkdir(parents=True, exist_ok=True)
-                arguments = "g c" if self.trial.sources.is_generic(path) else "c"
-                file.write_text(with_answers(text, module, names, arguments))
-            elif text:
-                file.write_text(text)
-            else:
-                file.unlink(missing_ok=True)
-                with contextlib.suppress(OSError):  # it holds other files
-                    file.parent.rmdir()
+def limited_answers(module, goals, is_generic):
+    """The text of a proof's answers: one with a step limit at each of these goals."""
+    arguments = "g c" if is_generic else "c"
+    added = (f"\npub {name} : goal.{name}\n{name} {arguments} = {CALL}\n" for name in sorted(goals))
+    return ANSWERS.format(module=module) + "".join(added)
 
-    def keep_proved(self, body):
-        """Writes those that prove their goals in the crate as it is; the others are left out. A body of the crate
-        is made for each function, without a change."""
-        self.write()
-        right = [
-            replace(body, changes=(), refused=frozenset([path]), changed=frozenset([path]), items=frozenset())
-            for path in self.goals
-        ]
-        ran, texts = self.trial.check(right, self.goals, offers=False)
-        fault = self.trial.fault(ran, texts, right)
-        for path, name in REFUSED.findall(ran.stdout):
-            self.goals.get(path.replace("/", "::"), set()).discard(name)
-        if fault:
-            self.goals = dict.fromkeys(self.goals, set())
-        self.write()
-        return fault
 
-    def keep_cheaper(self, before, after):
-        """Leaves out those of each function whose bodies took no second more before they were written, or of which one
-        is no longer refused."""
-        for path in self.goals:
-            if not before.get(path, 0) - after.get(path, 0) >= LEAST:
-                self.goals[path] = set()
-        self.write()
+def refused_answers(said):
+    """The answers that a check refuses, for whatever reason, or that it doesn't come to: their functions and names."""
+    found = [*REFUSED.findall(said)]
+    found += [(path, name) for path, names in UNCHECKED.findall(said) for name in names.split(", ")]
+    return {(path.replace("/", "::"), name) for path, name in found}
+
+
+def write_goal(body, name):
+    """Writes into a wrong body's file at which goal it is refused."""
+    lines = body.path.read_text().splitlines()
+    last = max(number for number, line in enumerate(lines) if line.startswith(("refused: ", "clause: ")))
+    lines.insert(last + 1, f"goal: {name}")
+    body.path.write_text("\n".join(lines) + "\n")

@@ -6,6 +6,8 @@ import pathlib
 import re
 from dataclasses import dataclass, replace
 
+from parts.answers import at_goals_of
+
 ROOT = pathlib.Path(__file__).resolve().parent.parent.parent
 
 
@@ -23,7 +25,8 @@ class Body:
 
     changed are the functions whose text it changes, items the constants and enums. Where it is in a copy of its
     function, copy_of is the function, and the copy is what it changes; clauses are those that the copy has, or none
-    where it has all."""
+    where it has all; goals are those at one of which it has to be refused, with no tactic tried at others, or none
+    where it is tried as its function is; is_limited says that no answers are written for them."""
 
     path: pathlib.Path
     changes: tuple
@@ -31,17 +34,29 @@ class Body:
     changed: frozenset
     items: frozenset
     clauses: frozenset
+    goals: frozenset = frozenset()
+    is_limited: bool = False
     copy_of: str = ""
 
     @property
     def functions(self):
         return self.changed | self.refused
 
-    def in_copy(self, number):
-        """The body in a copy of its function, whose name ends with a number."""
+    @property
+    def at_all_goals(self):
+        """The body, tried as its function is."""
+        return replace(self, goals=frozenset(), is_limited=False)
+
+    def in_copy(self, end):
+        """The body in a copy of its function, whose name has this end."""
         (function,) = self.changed
-        copy = frozenset([f"{function}_{number}"])
+        copy = frozenset([f"{function}_{end}"])
         return replace(self, refused=copy, changed=copy, copy_of=function)
+
+    @property
+    def may_name_goals(self):
+        """Whether it changes one function alone, and that has to refuse it."""
+        return not self.items and self.refused == self.changed and len(self.changed) == 1
 
     @property
     def crate(self):
@@ -137,6 +152,18 @@ def only_clauses(lines, labels):
     return [*lines[:at], *head, f"{indent}    ensures others_left_out {{ Unit {{0}} }}", *lines[opens:]]
 
 
+def without_tactics(lines):
+    """The lines of a function at whose goals no tactic is tried: what proves them is written."""
+    at = next(number for number, line in enumerate(lines) if FUNCTION.match(line))
+    indent = lines[at][: len(lines[at]) - len(lines[at].lstrip())]
+    above, is_tactic = [], False
+    for line in lines[:at]:
+        is_tactic |= line.lstrip().startswith("#[tactic(")
+        above += [] if is_tactic else [line]
+        is_tactic &= not line.endswith(")]")
+    return [*above, f"{indent}#[tactic(none)]", *lines[at:]]
+
+
 def name_of(path):
     return path.split("::")[-1]
 
@@ -184,6 +211,12 @@ class Sources:
         for body in (it for it in bodies if it.copy_of):
             file = self.files[body.copy_of]
             texts[file] = self.with_copy(file, texts.get(file, self.texts[file]), body)
+        for path, body in ((path, body) for body in bodies if body.goals for path in body.changed):
+            file = self.files[body.copy_of or path]
+            first, last = next(at[1:] for at in self.functions(file, texts[file]) if at[0] == path)
+            lines = texts[file].splitlines()
+            made = without_tactics(lines[first : last + 1])
+            texts[file] = "\n".join([*lines[:first], *made, *lines[last + 1 :]]) + "\n"
         return texts
 
     def with_copy(self, file, text, body):
@@ -226,10 +259,17 @@ class Sources:
         """The names of what a function ensures."""
         return re.findall(r"(?m)^ *ensures (\w+) \{", self.text_of(path))
 
+    def proof(self, path):
+        """What is written of a function's proof."""
+        return "".join(it.read_text() for it in self.crate.joinpath("proofs", *path.split("::")).glob("*.antt"))
+
+    def answered(self, path):
+        """The goals of a function that its proof has answers for."""
+        return {*re.findall(r"(?m)^pub (\S+) :", self.proof(path))}
+
     def answers(self, path):
         """The answers in a function's proof that are about its clauses, each with its name before it."""
-        proof = "".join(it.read_text() for it in self.crate.joinpath("proofs", *path.split("::")).glob("*.antt"))
-        return re.findall(r"(?ms)^pub (returns\S*) : (.*?)(?=^pub |\Z)", proof)
+        return re.findall(r"(?ms)^pub (returns\S*) : (.*?)(?=^pub |\Z)", self.proof(path))
 
     def answers_all(self, path):
         """Whether an answer is for all clauses at once."""
@@ -243,7 +283,7 @@ class Sources:
     def can_be_copied(self, body):
         """Whether a copy of the function that a body changes can be beside it, and be what refuses the body: not of
         a trait's method, nor where the function calls itself."""
-        if body.items or body.refused != body.changed or len(body.changed) != 1:
+        if not body.may_name_goals:
             return False
         (path,) = body.changed
         text, name, owner = self.text_of(path), name_of(path), self.owner(path)
@@ -270,7 +310,8 @@ class Sources:
 
 def read(path, sources):
     """A wrong body, or why it can't be applied."""
-    file, old, changes, refused, changed, items, clauses = None, None, [], set(), set(), set(), set()
+    file, old, changes = None, None, []
+    refused, changed, items, clauses, goals = set(), set(), set(), set(), set()
     for line in path.read_text().splitlines():
         key, _, said = line.partition(": ")
         if key == "file":
@@ -283,6 +324,8 @@ def read(path, sources):
             refused.add(said.strip())
         elif key == "clause":
             clauses.add(said.strip())
+        elif key == "goal":
+            goals.add(said.strip())
     for file, old, _ in changes:
         if file not in sources.texts or not old:
             return "a change names no text of a file of src/"
@@ -301,7 +344,8 @@ def read(path, sources):
         return f"an answer of its clauses cites one of the clause {min(others)}, which has no line"
     if any(map(sources.answers_all, changed)):
         clauses = set()
-    return Body(path, tuple(changes), *map(frozenset, (refused, changed, items, clauses)))
+    body = Body(path, tuple(changes), *map(frozenset, (refused, changed, items, clauses, goals)))
+    return at_goals_of(body, sources) if goals else body
 
 
 def batches_of(bodies, sources):
@@ -313,12 +357,12 @@ def batches_of(bodies, sources):
     for body in sorted(bodies, key=lambda it: (copied[it], -rivals[it], it.path)):
         for batch in (it for it in batches if len(it) < MOST):
             copies = [body.in_copy(len(batch) + 1)] if copied[body] else []
-            forms = copies if copies and body.clauses else [body, *copies]
+            forms = copies if copies and (body.clauses or body.is_limited) else [body, *copies]
             if placed := next((it for it in forms if sources.can_stand(it, batch)), None):
                 batch.append(placed)
                 break
         else:
-            batches.append([body.in_copy(1) if copied[body] and body.clauses else body])
+            batches.append([body.in_copy(1) if copied[body] and (body.clauses or body.is_limited) else body])
     return batches
 
 

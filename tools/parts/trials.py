@@ -6,6 +6,7 @@ import shutil
 import subprocess
 import tempfile
 
+from parts.answers import limited_answers, refused_answers, rights_of
 from parts.bodies import UNNAMED, Sources, function_of, name_of, without_body
 from kit.processes import seconds_of
 
@@ -30,10 +31,35 @@ NO_OFFERS = """
 no_offers : Type 0
 no_offers = not_in_scope
 """
+LAST = "no_offers"
 LEFT_OPEN = re.compile(r"note: (src/\S+\.rt):(\d+):\d+: it is not proved that .*?(?:\(`([^`]+)`\)|$)")
 CHECKED = re.compile(r"checked \w+::(\S+), \d+ of \d+")
 CLAUSE = re.compile(r"\bclause-([a-z]\w*)")
+ANSWER = re.compile(r": error: `([^`]+)`: ")
 DEAR = 8  # processor seconds of a function that a batch names
+
+
+def unproved_of(rights, said):
+    """The goals that functions as they are can't be proved at by the limited answers: their functions and names. That
+    a check read a copy's answers to their end shows in its error at the last of them."""
+    refused = refused_answers(said)
+    every = ((it.copy_of, path, goal) for it in rights for path in it.changed for goal in it.goals)
+    return {(of, goal) for of, path, goal in every if (path, goal) in refused or (path, LAST) not in refused}
+
+
+def at_goals(bodies, refusals, unproved):
+    """The refusals, of bodies that are tried at some goals alone those there, but for unproved ones."""
+    goals = {
+        path: {it for it in body.goals if (body.copy_of, it) not in unproved}
+        for body in bodies
+        for path in body.changed
+        if body.goals
+    }
+    kept = {
+        path: [it for it in lines if path not in goals or (at := ANSWER.search(it)) and at[1] in goals[path]]
+        for path, lines in refusals.items()
+    }
+    return {path: lines for path, lines in kept.items() if lines}
 
 
 class Trial:
@@ -41,7 +67,8 @@ class Trial:
 
     def __init__(self, rt, crate):
         self.rt, self.crate, self.sources = rt, crate, Sources(crate.folder)
-        self.costs, self.dear, self.labels, self.goals, self.seconds = {}, [], {}, {}, 0
+        self.costs, self.dear, self.labels, self.seconds = {}, [], {}, 0
+        self.answered, self.left = {}, {}  # of each body the goals that answers refuse, and those left open
 
     def check(self, bodies, only=(), offers=True):
         """What a check of these functions, or else of all, says of a copy with these bodies, and the texts it read. It
@@ -90,6 +117,8 @@ class Trial:
 
     def dearest(self, left_open, bodies):
         """A line for each function that took long in the last check: its bodies, and the goals without an answer."""
+        untried = {path for body in bodies if body.goals for path in body.changed}
+        left_open = {path: left for path, left in left_open.items() if path not in untried}
         for path in sorted(self.costs, key=self.costs.get, reverse=True)[:5]:
             if self.costs[path] < DEAR:
                 return
@@ -107,6 +136,11 @@ class Trial:
                 text = re.sub(rf"(?<=\bproofs\.){module}(?=\.)", copy.replace("::", "."), file.read_text())
                 made.mkdir(exist_ok=True)
                 (made / file.name).write_text(text.replace(f"{name}_spec", f"{name_of(copy)}_spec"))
+            if body.is_limited:
+                module = ".".join(["Rattle", self.crate.name, "proofs", *copy.split("::")])
+                made.mkdir(parents=True, exist_ok=True)
+                text = limited_answers(module, body.goals, self.sources.is_generic(body.copy_of))
+                (made / "Answers.antt").write_text(text)
 
     def holes(self, texts, named):
         """The files that leave each function but these a hole for a proof, and a body that costs nothing to read."""
@@ -174,16 +208,19 @@ class Trial:
 
     def tried(self, bodies, offers=False):
         """Of each body, why it isn't refused, or nothing."""
-        ran, texts = self.check(bodies, {it for body in bodies for it in body.functions}, offers)
-        self.dear = [*self.dearest(self.left_open(ran.stdout, texts), bodies)]
+        rights = [*rights_of(bodies)]
+        every = [*bodies, *rights]
+        ran, texts = self.check(every, {it for body in every for it in body.functions}, offers)
+        self.dear = [*self.dearest(self.left_open(ran.stdout, texts), every)]
         refusals = self.refusals(ran.stdout, texts)
-        if why := self.fault(ran, texts, bodies):
+        if why := self.fault(ran, texts, every):
             unread = self.unread(bodies)
             read = [it for it in bodies if it not in unread]
             return {**unread, **self.tried(read, offers)} if unread and read else dict.fromkeys(bodies, why)
-        if strays := refusals.keys() - {it for body in bodies for it in body.functions}:
+        if strays := refusals.keys() - {it for body in every for it in body.functions}:
             why = f"NOT TRIED, as {', '.join(sorted(strays))} isn't proved, and no `refused:` names it"
             return dict.fromkeys(bodies, why)
+        refusals = at_goals(bodies, refusals, unproved_of(rights, ran.stdout))
         self.labels |= {body: self.clauses_of(body, refusals) for body in bodies}
         self.note_goals(bodies, refusals)
         return {body: None if body.refused & refusals.keys() else "NOT REFUSED" for body in bodies}
@@ -195,12 +232,11 @@ class Trial:
         return list(dict.fromkeys(label for line in lines for label in CLAUSE.findall(line)))
 
     def note_goals(self, bodies, refusals):
-        """Notes of each function the goals that a body leaves open, if no written answer refuses the body there."""
+        """Notes of each body the goals of its functions that written answers refuse, and those that it leaves open."""
         for body in bodies:
-            for path in body.refused & refusals.keys():
-                names = [at[3] for at in map(LEFT_OPEN.match, refusals[path]) if at]
-                if len(names) == len(refusals[path]):
-                    self.goals.setdefault(body.copy_of or path, set()).update(filter(None, names))
+            lines = [line for path in sorted(body.refused & refusals.keys()) for line in refusals[path]]
+            self.answered[body] = [at[1] for at in map(ANSWER.search, lines) if at]
+            self.left[body] = [at[3] for at in map(LEFT_OPEN.match, lines) if at and at[3]]
 
     def where(self, body):
         """Where a check of all functions refuses a body."""
