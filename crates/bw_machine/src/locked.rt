@@ -32,7 +32,7 @@ pub(crate) struct Locked<S, K> {
 
 /// Over which folder a server is opened, and how.
 #[derive(Clone, Copy)]
-pub(crate) struct Opening<'a> {
+pub(crate) struct KeptFolder<'a> {
     /// The folder, as it was given.
     pub(crate) folder: &'a str,
     /// How large a take may grow.
@@ -56,7 +56,7 @@ pub(crate) fn open_locked<L: FolderLocks, D: Volume, E: Volume>(
     locks: &mut L,
     takes: D,
     notes: E,
-    opening: &Opening<'_>,
+    opening: &KeptFolder<'_>,
 ) -> Result<Locked<KeptOver<D, E>, L::Lock>, (StartRefusal, D, E)>
     ensures { (answer : Result L.Lock Refusal) × L.locks locks.old opening.now.folder.now answer locks.new
         × MatchResult result
@@ -64,7 +64,7 @@ pub(crate) fn open_locked<L: FolderLocks, D: Volume, E: Volume>(
         takes notes it.opened)
         (λ e. IsRefusedUnder answer e.0 × (e.1 ≡ takes) × StaysWhole E.Disk notes e.2) }
 {
-    let Opening {
+    let KeptFolder {
         folder,
         limit,
         sync,

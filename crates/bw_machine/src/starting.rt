@@ -5,7 +5,7 @@ ghost use Rattle.bw_machine.specs.OpensHere.{OpensHere};
 ghost use Rattle.bw_stream.specs.Moves.{failures_after};
 
 use crate::folder_server::FolderServer;
-use crate::locked::{KeptOver, Locked, Opening, open_locked};
+use crate::locked::{KeptFolder, KeptOver, Locked, open_locked};
 use crate::network::TcpNetwork;
 use crate::reporting::ReportingServer;
 use bw_disk::{SystemDisk, Volume};
@@ -92,7 +92,7 @@ pub fn open_kept<'a, D: MachineDisk<'a>>(
     let mut locks = HostRecordings::new(network.rt, network.spool);
     let files = network.files();
     let (takes, notes) = (D::of_machine(files), D::of_machine(files));
-    let opening = Opening {
+    let opening = KeptFolder {
         folder,
         limit,
         sync,
