@@ -25,8 +25,8 @@ use Rattle.bw_args.specs.Lines.{GivesRest, IsRestGiven}
 use Rattle.bw_args.specs.declared.bad_value.BadValue.TheVariants.{Rest}
 use Rattle.bw_args.specs.Lines.{AsksForPath, AsksNothing, GivesSender, GivesServer, GivesTries, HasNumbersInRange}
 use Rattle.bw_args.specs.Lines.{IsEndWithin, HasPort, IsFirstBad, IsGood, IsLineFor, IsWayWithin, IsWishOf, IsWithin, Service}
-use Rattle.bw_args.specs.Lines.{FileUpload, IsTakenLine, Wish, is_nameless, looked_at, looked_at_sending, looked_at_trying, looked_at_waiting}
-use Rattle.bw_args.specs.Lines.{Replaying, Rehearsing, Inspecting, Packing, Sending, SendingFiles, SendingPcm, Serving}
+use Rattle.bw_args.specs.Lines.{FileUpload, IsTakenLine, Wish, is_nameless, looked_at, looked_at_sending, looked_at_trying}
+use Rattle.bw_args.specs.Lines.{looked_at_waiting, Replaying, Rehearsing, Inspecting, Packing, Sending, SendingFiles, SendingPcm, Serving}
 use Rattle.bw_args.specs.Lines.{Uploading, PcmUpload, looked_at_samples, InspectingFiles, Repairing, Listing, Verifying, Picturing}
 use Rattle.bw_args.specs.PcmSources.{GivesFormat, GivesSamples, PlainPcm, fruitless_of, is_live, is_unpaired}
 use Rattle.bw_args.specs.PcmSources.{described_samples, header_samples, samples_with}

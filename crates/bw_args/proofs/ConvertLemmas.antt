@@ -137,7 +137,7 @@ runs_convert words line is = record {
   bw64_last = λ n f t p q e. asked_runs words _ line _ is e (bw64_last_asks n f t p q);
   no_form = λ n f t p q e. formless_reported words _ line is e (no_flag n f t p q);
   both_forms = λ n f t p q e. formless_reported words _ line is e (both_flags n f t p q);
-  no_out = λ n f p e. asked_reports MissingRequiredArgument words _ line is e (fault_reason (as_read (n ∷ codes "convert" ∷ codes "--rf64" ∷ f ∷ []))
-      MissingRequiredArgument (lacks_out n f p));
+  no_out = λ n f p e. asked_reports MissingRequiredArgument words _ line is e
+      (fault_reason (as_read (n ∷ codes "convert" ∷ codes "--rf64" ∷ f ∷ [])) MissingRequiredArgument (lacks_out n f p));
   none = λ n e. asked_reports MissingRequiredArgument words _ line is e refl;
 }

@@ -67,6 +67,7 @@ pub runs_join : (words : List Text) (line : CommandLine) → IsLineOf words line
 unfolding clap_on_literals
 runs_join words line is = record {
   both = λ n t f p q e. asked_runs words _ line _ is e (both_asks n t f p q);
-  no_left = λ n t p e. asked_reports MissingRequiredArgument words _ line is e (fault_reason (as_read (n ∷ codes "join" ∷ t ∷ [])) MissingRequiredArgument (lacks_left n t p));
+  no_left = λ n t p e. asked_reports MissingRequiredArgument words _ line is e
+      (fault_reason (as_read (n ∷ codes "join" ∷ t ∷ [])) MissingRequiredArgument (lacks_left n t p));
   none = λ n e. asked_reports MissingRequiredArgument words _ line is e refl;
 }

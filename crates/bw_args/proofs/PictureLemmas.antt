@@ -38,7 +38,7 @@ unfolding clap_on_literals
 runs_picture words line is = record {
   alone = λ p f plain e. asked_runs words _ line _ is e (picture_asks p f plain);
   dash = λ p e. asked_runs words _ line _ is e (dash_asks p);
-  two = λ p f g plain more e. asked_reports UnknownArgument words _ line is e (fault_reason (as_read (p ∷ codes "picture" ∷ f ∷ g ∷ [])) UnknownArgument
-      (two_fault p f g plain more));
+  two = λ p f g plain more e. asked_reports UnknownArgument words _ line is e
+      (fault_reason (as_read (p ∷ codes "picture" ∷ f ∷ g ∷ [])) UnknownArgument (two_fault p f g plain more));
   none = λ p e. asked_reports MissingRequiredArgument words _ line is e refl;
 }

@@ -17,7 +17,8 @@ use Rattle.bw_args.specs.Numbers.{most_recorders, most_seconds}
 use Rattle.bw_args.specs.Numbers.{number_written}
 use Rattle.bw_args.specs.ReadWords.{as_read}
 use Rattle.bw_args.specs.Lines.{AsksFor, GivesAddress, GivesCount, GivesEnd, GivesFolder, GivesLimit, GivesRecorders, GivesStatus}
-use Rattle.bw_args.specs.Lines.{GivesLog, GivesServer, IsJournaling, GivesRest, IsLineOf, IsRecorders, IsWishOf, Service, Serving, Wish, is_set}
+use Rattle.bw_args.specs.Lines.{GivesLog, GivesServer, IsJournaling, GivesRest, IsLineOf, IsRecorders, IsWishOf, Service, Serving, Wish}
+use Rattle.bw_args.specs.Lines.{is_set}
 use Rattle.bw_args.specs.PeerForms.{RunsServer, plain_server}
 use Rattle.bw_args.specs.PeerForms.{serving}
 use Rattle.bw_args.specs.declared.CommandLine.{CommandLine}

@@ -19,7 +19,8 @@ use Rattle.bw_args.specs.PcmSources.{described_samples, fruitless_of, is_live, s
 use Rattle.bw_args.specs.declared.commands.samples.WrittenFormat.{WrittenFormat}
 use Rattle.bw_args.specs.Lines.{GivesPcmUpload, GivesSender, GivesServer, GivesUpload, IsWishOf, Service}
 use Rattle.bw_args.specs.Lines.{FileUpload, PcmUpload, Wish, Inspecting, Packing, Rehearsing, Replaying}
-use Rattle.bw_args.specs.Lines.{Sending, SendingFiles, SendingPcm, Serving, Uploading, InspectingFiles, Repairing, Converting, Joining, Listing, Verifying, Picturing}
+use Rattle.bw_args.specs.Lines.{Sending, SendingFiles, SendingPcm, Serving, Uploading, InspectingFiles, Repairing, Converting, Joining}
+use Rattle.bw_args.specs.Lines.{Listing, Verifying, Picturing}
 use Rattle.bw_args.specs.Numbers.{most_block, most_exchanges, most_fruitless, most_rate, most_recorders, most_seconds}
 use Rattle.bw_args.specs.Numbers.{number_written}
 use Rattle.bw_args.specs.InspectedFiles.{GivesInspection, PlainInspection, has_option, is_alone, one_file}

@@ -72,7 +72,8 @@ fault_said MixedSamples = codes "'--pcm' is for '--file <FILE>' or '--spool <SPO
     ++ codes "with '--spool'; '--marks' is for one of these; without '--pcm' '--follow' is for "
     ++ codes "'--file <FILE>', without '--state', '--strict' and '--strict-texts'"
 fault_said Files = codes "FILE.. can't be given beside '--name', '--file', '--rounds', '--keep-left-out', "
-    ++ codes "'--pcm', '--skip', '--block', '--follow', '--until', '--spool', '--no-defaults' and '--marks': '--names "
+    ++ codes
+    "'--pcm', '--skip', '--block', '--follow', '--until', '--spool', '--no-defaults' and '--marks': '--names "
     ++ codes "<NAMES>' names several recordings, and '--name <NAME>' with '--file <FILE>' sends one"
 fault_said Inspection = codes "'--json' can't be given beside '--human', and '-', which is read once, "
     ++ codes "beside another file or '--digest'"

@@ -34,8 +34,8 @@ pub record RunsCommands (words : List Text) (line : CommandLine) : Type 0 where
   pub follow : RunsFollower words line
   -- `send --connect=ADDR FILE`, two files, and each of its options
   pub send_files : RunsFilesSender words line
-  -- one file that doesn't begin with `-`; `--strict`, `--strict-texts`, `--keep-left-out`, which doesn't go with
-  -- `--strict`, or settings in their order, unread here
+  -- one file that doesn't begin with `-`; `--strict`, `--strict-texts`, `--keep-left-out`, which doesn't go
+  -- with `--strict`, or settings in their order, unread here
   pub pack : RunsPack words line
   -- one file that doesn't begin with `-`, or `-` itself
   pub picture : RunsPicture words line
@@ -59,7 +59,8 @@ pub record RefusesLines (words : List Text) (line : CommandLine) : Type 0 where
   -- options of `--file` without it, `--rounds` or `--json` alone beside it, what is kept of it beside
   -- `--strict`, and bad numbers of it
   pub files : RefusesFiles words line
-  -- bad values of `--pcm`, `--skip` and `--block`, a receipt, chunks to keep, and options that don't go together
+  -- bad values of `--pcm`, `--skip` and `--block`, a receipt, chunks to keep, and options that don't go
+  -- together
   pub samples : RefusesSamples words line
   -- `--follow` without a file or with what needs a complete one, and `--until` without it
   pub growing : RefusesFollower words line

@@ -31,7 +31,8 @@ use Rattle.bw_args.specs.declared.bad_value.BadValue.TheVariants.{Recorders, Idl
 use Rattle.bw_args.specs.declared.bad_value.BadValue.TheVariants.{UntilStopped, Sync, Rest, GiveUp, Connect}
 use Rattle.bw_args.specs.declared.bad_value.BadValue.TheVariants.{Watch, Verify, Receipt, Status, Log}
 use Rattle.bw_args.specs.declared.bad_value.BadValue.TheVariants.{Rounds, Fruitless, Rate, Mixed, Pcm, Skip}
-use Rattle.bw_args.specs.declared.bad_value.BadValue.TheVariants.{Block, LeftOut, MixedSamples, Files, Inspection, Form}
+use Rattle.bw_args.specs.declared.bad_value.BadValue.TheVariants.{Block, LeftOut, MixedSamples, Files}
+use Rattle.bw_args.specs.declared.bad_value.BadValue.TheVariants.{Inspection, Form}
 use Rattle.bw_args.specs.declared.folders.FolderWork.{FolderWork}
 use Rattle.bw_args.specs.declared.peers.End.{End}
 use Rattle.bw_args.specs.declared.peers.Journaling.{Journaling}

@@ -10,7 +10,8 @@ use Rattle.bw_args.specs.Forms.{RunsFor}
 use Rattle.bw_args.specs.PeerForms.{ForSender, ReportsBad}
 use Rattle.bw_args.specs.FileForms.{source_at, with_file}
 use Rattle.bw_args.specs.declared.CommandLine.{CommandLine}
-use Rattle.bw_args.specs.declared.bad_value.BadValue.TheVariants.{LeftOut, Pcm, Receipt, Skip, Block, MixedSamples}
+use Rattle.bw_args.specs.declared.bad_value.BadValue.TheVariants.{LeftOut, Pcm, Receipt, Skip, Block}
+use Rattle.bw_args.specs.declared.bad_value.BadValue.TheVariants.{MixedSamples}
 use Rattle.bw_args.specs.declared.commands.samples.WrittenFormat.{WrittenFormat}
 
 -- the sender of headerless samples of which only address, name, file and format are said

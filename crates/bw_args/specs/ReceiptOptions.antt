@@ -21,8 +21,8 @@ target json path = record { path = path; json = json }
 abbrev pub receipt_given : (Text → Option Text) → Option PlainTarget
 receipt_given given = option_map (target (is_set (given (codes "json")))) (given (codes "receipt"))
 
--- options that aren't for one receipt: one of headerless samples, of a spool or of a file that is followed, or
--- its form without it
+-- options that aren't for one receipt: one of headerless samples, of a spool or of a file that is followed,
+-- or its form without it
 abbrev pub is_receipt_mixed : (Text → Option Text) → Bool
 is_receipt_mixed given = if is_some (given (codes "receipt"))
     then is_some (given (codes "pcm")) || (is_some (given (codes "spool")) || is_set (given (codes "follow")))

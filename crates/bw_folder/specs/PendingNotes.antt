@@ -1,6 +1,7 @@
 -- Notes that are kept in memory until a commit writes them.
-use Rattle.std.specs.Prelude.{◌≡◌, ◌≤◌, ◌-◌, ◌⊎◌, ◌||◌, if◌then◌else◌, ℕ, Bool, true, false, IsTrue, List, [], ◌∷◌, ◌++◌, length, take}
-use Rattle.std.specs.Prelude.{map, Option, Some, option_map, unwrap_or, Result, OnOk, OnErr}
+use Rattle.std.specs.Prelude.{◌≡◌, ◌≤◌, ◌-◌, ◌⊎◌, ◌||◌, if◌then◌else◌, ℕ, Bool, true, false, IsTrue, List, []}
+use Rattle.std.specs.Prelude.{◌∷◌, ◌++◌, length, take, map, Option, Some, option_map, unwrap_or, Result, OnOk}
+use Rattle.std.specs.Prelude.{OnErr}
 use Rattle.std.specs.List.{find, list_any}
 use Rattle.std.specs.Option.{option_map_or}
 use Rattle.std.specs.Str.{bytes_eq}

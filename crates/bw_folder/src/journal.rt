@@ -7,8 +7,8 @@ ghost use Rattle.bw_store.specs.Stores.{Counts, KeepsOthers};
 ghost use Rattle.bw_journal.specs.Notes.{BeginsNotes, BeginsInPart, Notes, NotesInPart};
 ghost use Rattle.bw_journal.specs.Notes.{KeepsHeaders, KeepsCommitted};
 ghost use Rattle.bw_folder.specs.Journals.{journal_path as path_of_journal, notes_at};
-ghost use Rattle.bw_folder.specs.PendingNotes.{unwritten_at, no_pending, pendings, unwritten_of, HoldsPending};
-ghost use Rattle.bw_folder.specs.PendingNotes.{IsOnDisk, waits};
+ghost use Rattle.bw_folder.specs.PendingNotes.{unwritten_at, no_pending, pendings, unwritten_of};
+ghost use Rattle.bw_folder.specs.PendingNotes.{HoldsPending, IsOnDisk, waits};
 ghost use Rattle.bw_journal.specs.Closings.{notes_close};
 ghost use Rattle.bw_folder.specs.FileNotes.{writes_file};
 ghost use Rattle.bw_disk.specs.Volumes.{KeepsEach};
@@ -371,8 +371,8 @@ impl<D: Volume> Journal for FolderJournal<D> {
         // The bytes follow the first ones, over any prefix of them that is there.
         ensures noted { IsTrue (D.honest (journals_disk self.old)) → OnOk result (Notes offset bytes.now
             (noted_in_folder self.old name.now) (noted_in_folder self.new name.now)) }
-        ensures failed { IsTrue (D.honest (journals_disk self.old)) → OnErr result (NotesInPart offset bytes.now
-            (noted_in_folder self.old name.now) (noted_in_folder self.new name.now)) }
+        ensures failed { IsTrue (D.honest (journals_disk self.old)) → OnErr result (NotesInPart offset
+            bytes.now (noted_in_folder self.old name.now) (noted_in_folder self.new name.now)) }
         ensures others { IsTrue (D.honest (journals_disk self.old)) → KeepsOthers
             (noted_in_folder self.old) (noted_in_folder self.new) name.now }
         // No other file changes, even on errors.

@@ -44,7 +44,8 @@ pub(crate) fn append_synced<D: Volume>(
     ensures others { IsTrue (D.honest disk.old) → KeepsOthers
         (D.contents disk.old) (D.contents disk.new) (D.path_of journal.old.file) }
     ensures syncs { IsTrue (D.honest disk.old) → take.now ≢ D.path_of journal.old.file →
-        SyncsInOrder D.Disk journal.old.writes result take.now (D.path_of journal.old.file) disk.old disk.new }
+        SyncsInOrder D.Disk journal.old.writes result take.now (D.path_of journal.old.file)
+        disk.old disk.new }
 {
     sync_noted(disk, journal, failed_sync, take, folder)?;
     disk.append(&mut journal.file, journal.place, &journal.pending)

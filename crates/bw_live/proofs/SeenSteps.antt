@@ -1,5 +1,6 @@
 -- Which lines are seen.
-use Rattle.std.proofs.Common.{◌≡◌, ◌≢◌, ℕ, zero, suc, ◌≤◌, true, List, [], ◌∷◌, ◌++◌, length, drop, take, Option, Some, None, refl, sym, ◌∙◌, ap, subst, arith, length-drop, append_assoc}
+use Rattle.std.proofs.Common.{◌≡◌, ◌≢◌, ℕ, zero, suc, ◌≤◌, true, List, [], ◌∷◌, ◌++◌, length, drop, take, Option, Some, None, refl, sym}
+use Rattle.std.proofs.Common.{◌∙◌, ap, subst, arith, length-drop, append_assoc}
 use Rattle.std.specs.Prelude.{◌==◌, Bool, false, MatchOption, OnErr, Result, Ok, Err, is_some, option_to_list, if◌then◌else◌}
 use Rattle.bw_ports.specs.StateReadings.{lines_after}
 use Rattle.std.proofs.Math.Seq.{take-length}
@@ -13,8 +14,8 @@ use Rattle.bw_live.specs.KeptPlaces.{MarksKept, with_line_at, with_lines_at}
 use Rattle.bw_live.specs.MarkLines.{wish_said}
 use Rattle.bw_live.specs.MarkPlaces.{placed_mark}
 use Rattle.bw_live.specs.MarkTexts.{mark_text}
-use Rattle.bw_live.specs.MarkLooks.{ArePrinted, HasSeen, HasSeenNone, HasSeenSome, MarkKeeping, SeesNew, SeesSome, StaysElse, begun_text, frame_now}
-use Rattle.bw_live.specs.MarkLooks.{cut_end, new_lines, skip_report, reports_at, texts_at}
+use Rattle.bw_live.specs.MarkLooks.{ArePrinted, HasSeen, HasSeenNone, HasSeenSome, MarkKeeping, SeesNew, SeesSome, StaysElse, begun_text}
+use Rattle.bw_live.specs.MarkLooks.{frame_now, cut_end, new_lines, skip_report, reports_at, texts_at}
 use Rattle.bw_live.specs.declared.files.MarkFiles.{Ghosts as Files}
 
 -- after the last line there is none
@@ -149,7 +150,8 @@ module _ {F E : Type 0} (f : Files F) (w : Writer E) where
             text (texts_at frame next lines)
             (subst (λ (z : List ℕ). Writes (f.bytes_at a.files a.keeps) z (f.bytes_at b.files a.keeps)) (append-nil text) one.written)
             (subst (λ (z : MarksKept). Writes (f.bytes_at b.files a.keeps) (texts_at frame z lines) (f.bytes_at c.files a.keeps)) one.seen
-            (subst (λ (z : List ℕ). Writes (f.bytes_at b.files z) (texts_at frame b.kept lines) (f.bytes_at c.files z)) keeps more.written));
+            (subst (λ (z : List ℕ). Writes (f.bytes_at b.files z) (texts_at frame b.kept lines) (f.bytes_at c.files z))
+            keeps more.written));
         reported = printed_more w report (reports_at a.marks frame next lines) a.faults b.faults c.faults
             (subst (λ (z : List (List ℕ)). ArePrinted w z a.faults b.faults) (append-nil report) one.reported)
             (subst (λ (z : MarksKept). ArePrinted w (reports_at a.marks frame z lines) b.faults c.faults) one.seen
@@ -174,12 +176,15 @@ module _ {F E : Type 0} (f : Files F) (w : Writer E) where
             (begins_after (f.bytes_at a.files a.keeps) (f.bytes_at b.files a.keeps) (f.bytes_at c.files a.keeps)
             text (texts_at frame next lines ++ after)
             (subst (λ (z : List ℕ). Writes (f.bytes_at a.files a.keeps) z (f.bytes_at b.files a.keeps)) (append-nil text) one.written)
-            (subst (λ (z : MarksKept). Begins (f.bytes_at b.files a.keeps) (texts_at frame z lines ++ after) (f.bytes_at c.files a.keeps)) one.seen
-            (subst (λ (z : List ℕ). Begins (f.bytes_at b.files z) (texts_at frame b.kept lines ++ after) (f.bytes_at c.files z)) keeps more.written)));
+            (subst (λ (z : MarksKept). Begins (f.bytes_at b.files a.keeps) (texts_at frame z lines ++ after)
+            (f.bytes_at c.files a.keeps)) one.seen
+            (subst (λ (z : List ℕ). Begins (f.bytes_at b.files z) (texts_at frame b.kept lines ++ after) (f.bytes_at c.files z))
+            keeps more.written)));
         reported = printed_more w report (reports_at a.marks frame next (take more.count lines)) a.faults b.faults c.faults
             (subst (λ (z : List (List ℕ)). ArePrinted w z a.faults b.faults) (append-nil report) one.reported)
             (subst (λ (z : MarksKept). ArePrinted w (reports_at a.marks frame z (take more.count lines)) b.faults c.faults) one.seen
-            (subst (λ (z : List ℕ). ArePrinted w (reports_at z frame b.kept (take more.count lines)) b.faults c.faults) marks more.reported));
+            (subst (λ (z : List ℕ). ArePrinted w (reports_at z frame b.kept (take more.count lines)) b.faults c.faults)
+            marks more.reported));
       }
 
   -- a line that wasn't seen is the first of those that weren't
@@ -283,7 +288,8 @@ module _ {F E : Type 0} (f : Files F) (w : Writer E) where
       HasSeen f w frame lines (record k { files = files }) new → HasSeen f w frame lines k new
   sees_from frame lines k new files same h = record {
     seen = h.seen;
-    written = subst (λ (z : List ℕ → Option (List ℕ)). Writes (z k.keeps) (texts_at frame k.kept lines) (f.bytes_at new.files k.keeps)) same h.written;
+    written = subst (λ (z : List ℕ → Option (List ℕ)). Writes (z k.keeps) (texts_at frame k.kept lines)
+        (f.bytes_at new.files k.keeps)) same h.written;
     reported = h.reported;
   }
 
@@ -293,7 +299,8 @@ module _ {F E : Type 0} (f : Files F) (w : Writer E) where
   sees_some_from frame lines after k new files same h = record {
     count = h.count;
     seen = h.seen;
-    written = subst (λ (z : List ℕ → Option (List ℕ)). Begins (z k.keeps) (texts_at frame k.kept lines ++ after) (f.bytes_at new.files k.keeps)) same h.written;
+    written = subst (λ (z : List ℕ → Option (List ℕ)). Begins (z k.keeps) (texts_at frame k.kept lines ++ after)
+        (f.bytes_at new.files k.keeps)) same h.written;
     reported = h.reported;
   }
 
@@ -392,8 +399,10 @@ module _ {F E : Type 0} (f : Files F) (w : Writer E) where
   -- what makes one line seen
   pub sees_one : (frame : ℕ) (line : List ℕ) (k new : MarkKeeping F E) →
       new.kept ≡ with_line_at frame k.kept line →
-      Writes (f.bytes_at k.files k.keeps) (as_line (mark_text (placed_mark k.kept.points frame (wish_said line)))) (f.bytes_at new.files k.keeps) →
-      ArePrinted w (option_to_list (skip_report k.marks (one_more k.kept.lines) (placed_mark k.kept.points frame (wish_said line)))) k.faults new.faults →
+      Writes (f.bytes_at k.files k.keeps) (as_line (mark_text (placed_mark k.kept.points frame (wish_said line))))
+      (f.bytes_at new.files k.keeps) →
+      ArePrinted w (option_to_list (skip_report k.marks (one_more k.kept.lines)
+      (placed_mark k.kept.points frame (wish_said line)))) k.faults new.faults →
       HasSeen f w frame (line ∷ []) k new
   unfolding reports_at texts_at
   sees_one frame line k new kept written reported =
@@ -401,19 +410,22 @@ module _ {F E : Type 0} (f : Files F) (w : Writer E) where
       let report = option_to_list (skip_report k.marks (one_more k.kept.lines) (placed_mark k.kept.points frame (wish_said line))) in
       record {
         seen = kept;
-        written = subst (λ (z : List ℕ). Writes (f.bytes_at k.files k.keeps) z (f.bytes_at new.files k.keeps)) (sym (append-nil text)) written;
+        written = subst (λ (z : List ℕ). Writes (f.bytes_at k.files k.keeps) z (f.bytes_at new.files k.keeps))
+            (sym (append-nil text)) written;
         reported = subst (λ (z : List (List ℕ)). ArePrinted w z k.faults new.faults) (sym (append-nil report)) reported;
       }
 
   pub sees_not : (frame : ℕ) (line : List ℕ) (k new : MarkKeeping F E) → new.kept ≡ k.kept →
-      Begins (f.bytes_at k.files k.keeps) (as_line (mark_text (placed_mark k.kept.points frame (wish_said line)))) (f.bytes_at new.files k.keeps) →
+      Begins (f.bytes_at k.files k.keeps) (as_line (mark_text (placed_mark k.kept.points frame (wish_said line))))
+      (f.bytes_at new.files k.keeps) →
       new.faults ≡ k.faults → HasSeenNone f w frame line k new
   unfolding texts_at
   sees_not frame line k new kept written same =
       let text = as_line (mark_text (placed_mark k.kept.points frame (wish_said line))) in
       record {
         seen = kept;
-        written = subst (λ (z : List ℕ). Begins (f.bytes_at k.files k.keeps) z (f.bytes_at new.files k.keeps)) (sym (append-nil text)) written;
+        written = subst (λ (z : List ℕ). Begins (f.bytes_at k.files k.keeps) z (f.bytes_at new.files k.keeps))
+            (sym (append-nil text)) written;
         reported = same;
       }
 
@@ -427,7 +439,8 @@ module _ {F E : Type 0} (f : Files F) (w : Writer E) where
         record {
           count = some.2.count;
           seen = some.2.seen;
-          written = subst (λ (z : List ℕ). Begins (f.bytes_at k.files k.keeps) (z ++ after) (f.bytes_at new.files k.keeps)) (append-nil text)
+          written = subst (λ (z : List ℕ). Begins (f.bytes_at k.files k.keeps) (z ++ after) (f.bytes_at new.files k.keeps))
+              (append-nil text)
               (begins_longer (f.bytes_at k.files k.keeps) (f.bytes_at new.files k.keeps) (text ++ []) after some.2.written);
           reported = some.2.reported;
         },

@@ -1,6 +1,7 @@
 -- What is kept of a recording's markers.
-use Rattle.std.specs.Prelude.{◌≡◌, ℕ, ◌+◌, ◌-◌, ◌==◌, Bool, true, false, List, [], ◌∷◌, ◌++◌, Option, Some, None}
-use Rattle.std.specs.Prelude.{Result, Ok, Err, codes, min, drop, take, length, fold, nat_eq, not, if◌then◌else◌}
+use Rattle.std.specs.Prelude.{◌≡◌, ℕ, ◌+◌, ◌-◌, ◌==◌, Bool, true, false, List, [], ◌∷◌, ◌++◌, Option, Some}
+use Rattle.std.specs.Prelude.{None, Result, Ok, Err, codes, min, drop, take, length, fold, nat_eq, not}
+use Rattle.std.specs.Prelude.{if◌then◌else◌}
 use Rattle.std.specs.List.{ends_with, prefix_len}
 use Rattle.std.specs.Str.{bytes_eq}
 use Rattle.bw_ports.specs.StateReadings.{lines_after}
@@ -46,7 +47,8 @@ blank_at text = prefix_len (λ c. not (c == 32)) text
 -- the marker that a text `FRAME LABEL-ID` keeps
 abbrev pub point_in_text : List ℕ → Option (ℕ × ℕ)
 point_in_text text =
-    point_of (number_spelled (take (blank_at text) text)) (number_spelled (drop (min (blank_at text + 1) (length text)) text))
+    point_of (number_spelled (take (blank_at text) text))
+    (number_spelled (drop (min (blank_at text + 1) (length text)) text))
 
 -- the marker that a line `FRAME LABEL-ID.` keeps: a line that was cut off has no full stop
 abbrev pub point_kept : List ℕ → Option (ℕ × ℕ)

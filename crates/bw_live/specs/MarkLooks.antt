@@ -1,7 +1,7 @@
 -- What a look at the file of marks does.
-use Rattle.std.specs.Prelude.{◌≡◌, ◌≢◌, ℕ, ◌-◌, ◌/◌, Bool, true, false, List, [], ◌∷◌, ◌++◌, Option, Some, None}
-use Rattle.std.specs.Prelude.{Result, Ok, Err, codes, drop, length, max, nat_eq, option_to_list, string_bytes, take}
-use Rattle.std.specs.Prelude.{if◌then◌else◌}
+use Rattle.std.specs.Prelude.{◌≡◌, ◌≢◌, ℕ, ◌-◌, ◌/◌, Bool, true, false, List, [], ◌∷◌, ◌++◌, Option, Some}
+use Rattle.std.specs.Prelude.{None, Result, Ok, Err, codes, drop, length, max, nat_eq, option_to_list}
+use Rattle.std.specs.Prelude.{string_bytes, take, if◌then◌else◌}
 use Rattle.std.specs.List.{ends_with}
 use Rattle.bw_console.specs.Prints.{IsOf, IsPrint, Print}
 use Rattle.bw_console.specs.Text.{as_line}
@@ -111,7 +111,8 @@ module _ {F E : Type 0} (f : Files F) (w : Writer E) where
     pub reported : ArePrinted w (reports_at old.marks frame old.kept lines) old.faults new.faults
 
   -- the first of them did; of what was to be kept of them all, and after them, a prefix is
-  pub record HasSeenSome (frame : ℕ) (lines : List (List ℕ)) (after : List ℕ) (old new : MarkKeeping F E) : Type 0 where
+  pub record HasSeenSome (frame : ℕ) (lines : List (List ℕ)) (after : List ℕ)
+      (old new : MarkKeeping F E) : Type 0 where
     pub count : ℕ
     pub seen : new.kept ≡ with_lines_at frame old.kept (take count lines)
     pub written : Begins (f.bytes_at old.files old.keeps) (texts_at frame old.kept lines ++ after)
@@ -134,7 +135,8 @@ module _ {F E : Type 0} (f : Files F) (w : Writer E) where
   abbrev pub OfNewLines : (ℕ → List (List ℕ) → Type 0) → MarkKeeping F E → Type 0
   OfNewLines Holds k =
       (bytes : List ℕ) → f.bytes_at k.files k.marks ≡ Some bytes →
-      (frame : ℕ) × ((xs : List ℕ) → f.bytes_at k.files k.recording ≡ Some xs → frame ≡ frame_now k (length xs))
+      (frame : ℕ)
+      × ((xs : List ℕ) → f.bytes_at k.files k.recording ≡ Some xs → frame ≡ frame_now k (length xs))
       × Holds frame (new_lines k.kept (lines_after [] (take 65_536 bytes)))
 
   -- all lines that are new were seen

@@ -1,7 +1,7 @@
 -- The header of a WAVE file whose sizes may not be written yet.
-use Rattle.std.specs.Prelude.{⊤, ◌==◌, ◌&&◌, ◌||◌, ℕ, zero, suc, ◌+◌, ◌-◌, ◌^◌, ◌≤◌, Bool, not, nat_le, nat_lt}
-use Rattle.std.specs.Prelude.{List, [], ◌++◌, length, drop, take, slice_range, codes, Option, Some, None}
-use Rattle.std.specs.Prelude.{if◌then◌else◌}
+use Rattle.std.specs.Prelude.{⊤, ◌==◌, ◌&&◌, ◌||◌, ℕ, zero, suc, ◌+◌, ◌-◌, ◌^◌, ◌≤◌, Bool, not, nat_le}
+use Rattle.std.specs.Prelude.{nat_lt, List, [], ◌++◌, length, drop, take, slice_range, codes, Option, Some}
+use Rattle.std.specs.Prelude.{None, if◌then◌else◌}
 use Rattle.bw_model.specs.Bytes.{even_up, le32, u32_at, u64_at, unsaid, zeros}
 use Rattle.bw_model.specs.Limits.{most_chunks}
 use Rattle.bw_model.specs.Reading.{id_at, is_id, is_riff, is_wide}

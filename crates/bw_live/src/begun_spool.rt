@@ -44,7 +44,8 @@ pub struct SpoolWish<'a> {
 /// line says, which is None of a spool that another version or `--no-defaults` began.
 ///
 /// # Errors
-/// How the command ends because it isn't held, which is reported: `Device`, or `Memory` if memory was refused.
+/// How the command ends because it isn't held, which is reported: `Device`, or `Memory` if memory was
+/// refused.
 ///
 /// # Not specified
 /// When it isn't held.

@@ -44,6 +44,8 @@ pub trait MarkFiles {
     fn append(&mut self, path: &str, bytes: &[u8]) -> io::Result<()>
         ensures others { (other : List ℕ) → other ≢ path.now →
             bytes_at self.new other ≡ bytes_at self.old other }
-        ensures ok { OnOk result (Writes (bytes_at self.old path.now) bytes.now (bytes_at self.new path.now)) }
-        ensures err { OnErr result (Begins (bytes_at self.old path.now) bytes.now (bytes_at self.new path.now)) };
+        ensures ok { OnOk result
+            (Writes (bytes_at self.old path.now) bytes.now (bytes_at self.new path.now)) }
+        ensures err { OnErr result
+            (Begins (bytes_at self.old path.now) bytes.now (bytes_at self.new path.now)) };
 }

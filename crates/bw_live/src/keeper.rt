@@ -1,11 +1,11 @@
 //! Lines are seen, become markers, and are kept.
-ghost use Rattle.std.specs.Prelude.{◌≡◌, ◌++◌, [], ◌∷◌, ℕ, List, IfOk, OnErr, OnOk, Some, codes, drop, false, option_map};
-ghost use Rattle.std.specs.Prelude.{option_to_list, string_bytes, take, true};
+ghost use Rattle.std.specs.Prelude.{◌≡◌, ◌++◌, [], ◌∷◌, ℕ, List, IfOk, OnErr, OnOk, Some, codes, drop, false};
+ghost use Rattle.std.specs.Prelude.{option_map, option_to_list, string_bytes, take, true};
 ghost use Rattle.bw_console.specs.Text.{as_line};
 ghost use Rattle.bw_live.specs.KeptPlaces.{GoesOnMarking, marks_header, marks_of};
-ghost use Rattle.bw_live.specs.MarkLooks.{ArePrinted, KeepsEnd, HasSeen, HasSeenNone, HasSeenSome, MarkKeeping, ReportsFailedLook};
-ghost use Rattle.bw_live.specs.MarkLooks.{SeesNew, SeesSome, StaysElse, begun_text, keeping_of, cut_end, new_keeping};
-ghost use Rattle.bw_live.specs.MarkLooks.{skip_report};
+ghost use Rattle.bw_live.specs.MarkLooks.{ArePrinted, KeepsEnd, HasSeen, HasSeenNone, HasSeenSome};
+ghost use Rattle.bw_live.specs.MarkLooks.{MarkKeeping, ReportsFailedLook, SeesNew, SeesSome, StaysElse};
+ghost use Rattle.bw_live.specs.MarkLooks.{begun_text, keeping_of, cut_end, new_keeping, skip_report};
 ghost use Rattle.bw_live.specs.MarkTexts.{end_text, failed_look_text, skipped_text};
 ghost use Rattle.bw_ports.specs.StateReadings.{lines_after};
 ghost use Rattle.bw_stream.specs.Moves.{Begins, Writes, one_more};
@@ -99,7 +99,8 @@ impl<F: MarkFiles + Drop, E: Sink + Drop> MarkKeeper<F, E> {
     /// When it fails, and the kind of the error.
     pub fn look(&mut self) -> io::Result<()>
         ensures seen { OnOk result (SeesNew F.MarkFiles E.Sink (keeping_of self.old) (keeping_of self.new)) }
-        ensures failed { OnErr result (SeesSome F.MarkFiles E.Sink [] (keeping_of self.old) (keeping_of self.new)) }
+        ensures failed { OnErr result
+            (SeesSome F.MarkFiles E.Sink [] (keeping_of self.old) (keeping_of self.new)) }
         ensures stays { StaysElse F.MarkFiles E.Sink (keeping_of self.old) (keeping_of self.new) }
     {
         if self.kept.is_ended {
@@ -124,7 +125,8 @@ impl<F: MarkFiles + Drop, E: Sink + Drop> MarkKeeper<F, E> {
     /// When it fails, and the kind of the error.
     pub fn end(&mut self) -> io::Result<Vec<CuePoint>>
         ensures all { IfOk result (λ points. points.items ≡ (keeping_of self.new).kept.points) }
-        ensures ended { OnOk result ((seen : MarkKeeping F E) × SeesNew F.MarkFiles E.Sink (keeping_of self.old) seen
+        ensures ended { OnOk result ((seen : MarkKeeping F E)
+            × SeesNew F.MarkFiles E.Sink (keeping_of self.old) seen
             × KeepsEnd F.MarkFiles E.Sink seen (keeping_of self.new)) }
         ensures failed { OnErr result
             (SeesSome F.MarkFiles E.Sink (as_line end_text) (keeping_of self.old) (keeping_of self.new)) }
@@ -161,10 +163,12 @@ impl<F: MarkFiles + Drop, E: Sink + Drop> MarkKeeper<F, E> {
     /// # Errors
     /// If the system failed.
     fn keep_end(&mut self) -> io::Result<()>
-        ensures ended { OnOk result (KeepsEnd F.MarkFiles E.Sink (keeping_of self.old) (keeping_of self.new)) }
+        ensures ended { OnOk result
+            (KeepsEnd F.MarkFiles E.Sink (keeping_of self.old) (keeping_of self.new)) }
         ensures kept { OnErr result ((keeping_of self.new).kept ≡ (keeping_of self.old).kept) }
-        ensures part { OnErr result (Begins (F.bytes_at (keeping_of self.old).files (keeping_of self.old).keeps)
-            (as_line end_text) (F.bytes_at (keeping_of self.new).files (keeping_of self.old).keeps)) }
+        ensures part { OnErr result
+            (Begins (F.bytes_at (keeping_of self.old).files (keeping_of self.old).keeps) (as_line end_text)
+            (F.bytes_at (keeping_of self.new).files (keeping_of self.old).keeps)) }
         ensures faults { (keeping_of self.new).faults ≡ (keeping_of self.old).faults }
         ensures stays { StaysElse F.MarkFiles E.Sink (keeping_of self.old) (keeping_of self.new) }
     {
@@ -285,7 +289,8 @@ fn open_kept<F: MarkFiles>(
 /// # Errors
 /// If the system failed.
 fn end_last_line<F: MarkFiles>(files: &mut F, path: &str, bytes: &[u8]) -> io::Result<()>
-    ensures { OnOk result (Writes (F.bytes_at files.old path.now) (cut_end bytes.now) (F.bytes_at files.new path.now)) }
+    ensures { OnOk result
+        (Writes (F.bytes_at files.old path.now) (cut_end bytes.now) (F.bytes_at files.new path.now)) }
 {
     if bytes.ends_with(b"\n") {
         return Ok(());
@@ -309,7 +314,8 @@ fn after_lines(bytes: &[u8], count: u64) -> &[u8]
 
 /// Prints a report, if there is one.
 fn print_report<E: Sink>(report: Option<Vec<u8>>, faults: &mut E)
-    ensures { ArePrinted E.Sink (option_to_list (option_map (λ text. text.items) report)) faults.old faults.new }
+    ensures { ArePrinted E.Sink (option_to_list (option_map (λ text. text.items) report))
+        faults.old faults.new }
 {
     let Some(text) = report else {
         return;
@@ -319,7 +325,8 @@ fn print_report<E: Sink>(report: Option<Vec<u8>>, faults: &mut E)
 
 /// The line that reports a failed look.
 fn failed_line(alloc: Global, error: &io::Error) -> Result<String, AllocError>
-    ensures { IfOk result (λ line. (words : List ℕ) × (string_bytes line ≡ as_line (failed_look_text words))) }
+    ensures { IfOk result (λ line. (words : List ℕ)
+        × (string_bytes line ≡ as_line (failed_look_text words))) }
 {
     let words = format!(in alloc; "{error}")?;
     failed_line_in(alloc, words.as_str())

@@ -1,7 +1,7 @@
 //! What is kept of a recording's markers is read.
 ghost use Rattle.std.specs.Prelude.{◌≡◌, ◌≤◌, [], IfOk, OnErr, OnOk, fold, length, option_map};
-ghost use Rattle.bw_live.specs.KeptPlaces.{blank_at, kept_said, marks_of, no_marks, point_in_text, point_kept, point_of as point_with};
-ghost use Rattle.bw_live.specs.KeptPlaces.{with_kept_line, with_placed};
+ghost use Rattle.bw_live.specs.KeptPlaces.{blank_at, kept_said, marks_of, no_marks, point_in_text};
+ghost use Rattle.bw_live.specs.KeptPlaces.{point_kept, point_of as point_with, with_kept_line, with_placed};
 ghost use Rattle.bw_ports.specs.StateReadings.{lines_after};
 
 use crate::answer::MarkFault;

@@ -1,7 +1,8 @@
 //! Which marker a line becomes.
 ghost use Rattle.std.specs.Prelude.{◌≡◌, ◌==◌};
 ghost use Rattle.std.specs.List.{list_any};
-ghost use Rattle.bw_live.specs.MarkPlaces.{admitted_mark, greatest_id as greatest_label, later_id, next_id as next_label, placed_mark};
+ghost use Rattle.bw_live.specs.MarkPlaces.{admitted_mark, greatest_id as greatest_label, later_id};
+ghost use Rattle.bw_live.specs.MarkPlaces.{next_id as next_label, placed_mark};
 
 use crate::answer::{MarkFault, MarkWish};
 use bw_layout::CuePoint;

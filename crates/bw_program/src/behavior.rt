@@ -34,7 +34,8 @@ impl<X: Environment> Behavior for Outside<X> {
         X.Network.Reactor.Link.Link X.Network.ServeRules
         (status_side X.Network.StatusSetup X.Network.Port.StatusPort X.Network.Port.Link.Link))
         (sender_side X.Network.Dial.Dial X.Network.Dial.Reader.Source X.Network.Dial.Writer.Sink)
-        (upload_side ⟦<PlanFeed<<X::Files as RecordingFiles>::File, <X::Files as RecordingFiles>::Stamped> as Feed>⟧
+        (upload_side
+        ⟦<PlanFeed<<X::Files as RecordingFiles>::File, <X::Files as RecordingFiles>::Stamped> as Feed>⟧
         (LooksAt X.Files.Stamped.Stamped)
         ⟦<MarkedFeed<PcmFeed<<X::Files as RecordingFiles>::Growing>, <X::Files as Marking>::Marker> as Feed>⟧
         X.Pause.Pause)

@@ -19,7 +19,8 @@ pub(crate) fn convert_recording<X: Environment>(
     form: AskedForm,
     outside: &mut Outside<X>,
 ) -> Exit
-    ensures { ⟦<Outside<X> as Behavior>⟧.does (ByTask (Convert file.now to.now form)) result outside.old outside.new }
+    ensures { ⟦<Outside<X> as Behavior>⟧.does (ByTask (Convert file.now to.now form))
+        result outside.old outside.new }
 {
     let Outside {
         files,

@@ -99,7 +99,8 @@ pub(crate) fn join_recordings<X: Environment>(
     left: &String,
     outside: &mut Outside<X>,
 ) -> Exit
-    ensures { ⟦<Outside<X> as Behavior>⟧.does (ByTask (Join take.now left.now)) result outside.old outside.new }
+    ensures { ⟦<Outside<X> as Behavior>⟧.does (ByTask (Join take.now left.now))
+        result outside.old outside.new }
 {
     let Outside {
         files,

@@ -41,8 +41,9 @@ pub(crate) fn serve_as<
         N.Reactor.Link.Link N.ServeRules (status_side N.StatusSetup N.Port.StatusPort N.Port.Link.Link))
         W.Sink E.Sink N.Network N.ListenerSetup
         (kept_side N.Opens.opens N.Opens.failures
-        (turns_side N.Server.Turns.answers N.Server.Turns.committed N.Server.Turns.commits N.Server.HasTable.holds)) server.now result
-        network.old network.new out.old out.new faults.old faults.new }
+        (turns_side N.Server.Turns.answers N.Server.Turns.committed N.Server.Turns.commits
+        N.Server.HasTable.holds))
+        server.now result network.old network.new out.old out.new faults.old faults.new }
 {
     let Some(limit) = Limit::new(server.limit) else {
         unreachable!();
@@ -126,7 +127,8 @@ fn serve_opened<
     ensures { ServesOpened N.Network N.ListenerSetup (reach_side N.Peers.Peers N.Peers.Reader.Source
         N.Peers.Writer.Sink N.Reactor.Reactor N.Reactor.Link.Link
         (status_side N.StatusSetup N.Port.StatusPort N.Port.Link.Link)) W.Sink E.Sink
-        (turns_side T.answers T.committed T.commits T.holds) orders.now.server.now orders.now.allow.now opened result
+        (turns_side T.answers T.committed T.commits T.holds)
+        orders.now.server.now orders.now.allow.now opened result
         network.old network.new out.old out.new faults.old faults.new }
 {
     let server = orders.server;

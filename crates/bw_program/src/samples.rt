@@ -144,7 +144,8 @@ fn send_set<X: Environment, G: Observer>(
     outside: &mut Outside<X>,
     observer: &mut G,
 ) -> Exit
-    ensures { ⟦<Outside<X> as Behavior>⟧.does (ByUpload (SetSamples (map string_bytes settings.now) sender.now))
+    ensures { ⟦<Outside<X> as Behavior>⟧.does
+        (ByUpload (SetSamples (map string_bytes settings.now) sender.now))
         result outside.old outside.new }
 {
     let Outside {

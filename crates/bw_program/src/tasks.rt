@@ -49,7 +49,8 @@ pub(crate) fn rehearse_input<X: Environment>(
     outside: &mut Outside<X>,
 ) -> Exit
     requires { IsLimit limit }
-    ensures { ⟦<Outside<X> as Behavior>⟧.does (ByTask (Rehearse name.now limit)) result outside.old outside.new }
+    ensures { ⟦<Outside<X> as Behavior>⟧.does (ByTask (Rehearse name.now limit))
+        result outside.old outside.new }
 {
     let Some(limit) = Limit::new(limit) else {
         unreachable!();
@@ -87,7 +88,8 @@ pub(crate) fn inspect_each<X: Environment>(
     inspection: &Inspection,
     outside: &mut Outside<X>,
 ) -> Exit
-    ensures { ⟦<Outside<X> as Behavior>⟧.does (ByTask (InspectFiles inspection.now)) result outside.old outside.new }
+    ensures { ⟦<Outside<X> as Behavior>⟧.does (ByTask (InspectFiles inspection.now))
+        result outside.old outside.new }
 {
     let Outside {
         files,
@@ -141,7 +143,8 @@ pub(crate) fn repair_recording<X: Environment>(
     write: bool,
     outside: &mut Outside<X>,
 ) -> Exit
-    ensures { ⟦<Outside<X> as Behavior>⟧.does (ByTask (Repair file.now write)) result outside.old outside.new }
+    ensures { ⟦<Outside<X> as Behavior>⟧.does (ByTask (Repair file.now write))
+        result outside.old outside.new }
 {
     let Outside {
         files,

@@ -141,5 +141,5 @@ snapshot-depth s =
     let es : members_depth (fold with_count no_members s.ended_by.items) ≤ 0 = (kinds_flat s.ended_by.items).1 in
     below _ (max-le (lit≤ tt) (max-le (lit≤ tt) (max-le (lit≤ tt) (max-le (omega (arith, es)) (max-le (lit≤ tt)
     (max-le (omega (arith, ls)) (max-le (lit≤ tt) (max-le (flat 3 _ (number_depth s.memory)) (max-le (omega (arith, ms))
-    (max-le (omega (arith, ns)) (max-le (lit≤ tt) (max-le (lit≤ tt) (max-le (lit≤ tt) (max-le (omega (arith, ts)) (max-le (lit≤ tt) (max-le (lit≤ tt)
-    (max-le (omega (arith, vs)) (lit≤ tt))))))))))))))))))
+    (max-le (omega (arith, ns)) (max-le (lit≤ tt) (max-le (lit≤ tt) (max-le (lit≤ tt) (max-le (omega (arith, ts))
+    (max-le (lit≤ tt) (max-le (lit≤ tt) (max-le (omega (arith, vs)) (lit≤ tt))))))))))))))))))

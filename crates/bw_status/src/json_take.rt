@@ -3,7 +3,8 @@ ghost use Rattle.std.specs.Prelude.{◌≡◌, IfOk, OnOk};
 ghost use Rattle.serde_json.specs.View.{members_view, view};
 ghost use Rattle.bw_status.specs.declared.snapshot.SoundFormat.{SoundFormat};
 ghost use Rattle.bw_status.specs.Objects.{format_number, unsigned_or_null, peer_data, take_data};
-ghost use Rattle.bw_status.specs.Objects.{with_take_words, with_take_counts, with_take_times, with_sound_format};
+ghost use Rattle.bw_status.specs.Objects.{with_take_words, with_take_counts, with_take_times};
+ghost use Rattle.bw_status.specs.Objects.{with_sound_format};
 
 use crate::row::address_text;
 use crate::snapshot::{SoundFormat, TakeStatus, take_state_word};

@@ -1,5 +1,6 @@
 //! Headerless samples, and those of a file that is followed, as `send` takes them.
-ghost use Rattle.std.specs.Prelude.{◌≡◌, codes, false, option_map, string_bytes, Some, IfOk, IfErr, MatchOption, OnErr};
+ghost use Rattle.std.specs.Prelude.{◌≡◌, codes, false, option_map, string_bytes, Some, IfOk, IfErr};
+ghost use Rattle.std.specs.Prelude.{MatchOption, OnErr};
 ghost use Rattle.clap.specs.Words.{first_value, found_of, rows_of};
 ghost use Rattle.bw_args.specs.Given.{GivesAddress, GivesName, is_set};
 ghost use Rattle.bw_args.specs.Lines.{AsksForPath, GivesTries, IsFirstBad, IsLineFor};
@@ -267,7 +268,8 @@ fn pcm_source(alloc: Global, samples: Samples<'_>) -> Result<PcmSource, AllocErr
 }
 
 fn owned(alloc: Global, path: Option<&str>) -> Result<Option<String>, AllocError>
-    ensures { IfOk result (λ owned. option_map string_bytes owned ≡ option_map (λ path. path.now) path.entry) }
+    ensures { IfOk result (λ owned. option_map string_bytes owned
+        ≡ option_map (λ path. path.now) path.entry) }
 {
     match path {
         Some(path) => Ok(Some(String::from_str(alloc, path)?)),

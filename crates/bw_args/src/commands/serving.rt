@@ -2,8 +2,8 @@
 ghost use Rattle.std.specs.Prelude.{◌≡◌, codes, Some, IfOk, IfErr, OnErr, is_some, option_map, string_bytes};
 ghost use Rattle.clap.specs.Words.{first_value, found_of, rows_of};
 ghost use Rattle.bw_args.specs.Lines.{AsksForPath, GivesRecorders, IsEndGiven, IsFirstBad};
-ghost use Rattle.bw_args.specs.Lines.{IsFolderGiven, IsJournalingGiven, IsLineFor, IsRecordersGiven, IsRestGiven};
-ghost use Rattle.bw_args.specs.Lines.{IsLogGiven, IsStatusGiven, looked_at_waiting};
+ghost use Rattle.bw_args.specs.Lines.{IsFolderGiven, IsJournalingGiven, IsLineFor, IsRecordersGiven};
+ghost use Rattle.bw_args.specs.Lines.{IsRestGiven, IsLogGiven, IsStatusGiven, looked_at_waiting};
 
 use super::limit_given;
 use super::network::{address_given, count_given, flag_given};

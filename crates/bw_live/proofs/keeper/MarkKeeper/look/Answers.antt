@@ -2,7 +2,8 @@ use Rattle.std.proofs.Common.{◌≡◌, ◌∙◌, ap, [], ℕ, ◌-◌, ◌/�
 use Rattle.std.proofs.lemmas.Result.{on_ok_weaker}
 use Rattle.bw_ports.specs.StateReadings.{lines_after}
 use Rattle.bw_live.specs.MarkLooks.{keeping_of}
-use Rattle.bw_live.proofs.SeenSteps.{look_saw, look_saw_nothing, look_saw_some, none_then, on_any_error, on_error_weaker, sees_ended, sees_some_same, stays_from}
+use Rattle.bw_live.proofs.SeenSteps.{look_saw, look_saw_nothing, look_saw_some, none_then, on_any_error, on_error_weaker, sees_ended}
+use Rattle.bw_live.proofs.SeenSteps.{sees_some_same, stays_from}
 use Rattle.bw_live.proofs.keeper.MarkKeeper.look.Goals as goal
 
 pub returns-then-self-clause-seen : goal.returns-then-self-clause-seen

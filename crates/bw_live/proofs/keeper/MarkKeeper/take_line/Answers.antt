@@ -5,7 +5,8 @@ use Rattle.bw_live.proofs.keeper.MarkKeeper.take_line.Goals as goal
 
 pub returns-in_err-append-clause-failed : goal.returns-in_err-append-clause-failed
 returns-in_err-append-clause-failed g c = on_any_error _
-    (sees_not g.F.MarkFiles g.E.Sink c.args.frame c.args.line.now (keeping_of c.args.self.now) (record (keeping_of c.args.self.now) { files = c.append.new.self })
+    (sees_not g.F.MarkFiles g.E.Sink c.args.frame c.args.line.now (keeping_of c.args.self.now)
+    (record (keeping_of c.args.self.now) { files = c.append.new.self })
     (search rules) (search rules) (search rules))
 
 pub returns-in_err-add-clause-failed : goal.returns-in_err-add-clause-failed
