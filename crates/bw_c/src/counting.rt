@@ -16,8 +16,8 @@ use bw_model::{Name, Verdict};
 use bw_sender::Heard;
 use bw_wire::{Notice, Reply};
 
-/// Counts a verdict, if it is the first of an offered request, and says what the reply is. No other reply changes
-/// anything.
+/// Counts a verdict, if it is the first of an offered request, and says what the reply is. No other reply
+/// changes anything.
 pub(crate) fn count(sender: &mut BwiSender, reply: &Reply) -> Heard
     ensures heard { (s : Defined) → IsPlainSender s sender.old →
         heard_of result ≡ heard s (reply_of reply.now) }

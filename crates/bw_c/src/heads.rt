@@ -1,7 +1,7 @@
 //! The heads of a sender's messages, an ask and the end, each put into the caller's memory.
 //!
-//! Each call returns how many bytes it put there, or 0, after which nothing changed. After a head come the bytes that
-//! its request carries: a history, samples or a value.
+//! Each call returns how many bytes it put there, or 0, after which nothing changed. After a head come the
+//! bytes that its request carries: a history, samples or a value.
 ghost use Rattle.std.specs.Prelude.{◌≡◌, ◌≤◌, ◌<◌, ◌↔◌, length, take, drop, IsTrue};
 ghost use Rattle.bw_model.specs.Take.{Open, Block, Mark, SetField, Close};
 ghost use Rattle.bw_model.specs.Wire.{Second, last_number, Asks, Bye, is_request};
@@ -14,8 +14,8 @@ use crate::sender::{BwiSender, NUMBERS, SLOTS, name_bytes};
 use arrayvec::ArrayVec;
 use bw_model::{Name, RequestRef};
 
-/// Offers an OPEN (Hz, samples per frame, bits per sample, and a coding history of at most 4,096 bytes), and puts its
-/// head, of at most 52 bytes, into `out`.
+/// Offers an OPEN (Hz, samples per frame, bits per sample, and a coding history of at most 4,096 bytes), and
+/// puts its head, of at most 52 bytes, into `out`.
 #[unsafe(no_mangle)]
 pub extern "C" fn bwi_open_head(
     sender: &mut BwiSender,
@@ -53,8 +53,8 @@ pub extern "C" fn bwi_block_head(sender: &mut BwiSender, samples: &[u8], out: &m
     put_head(sender, &request, out)
 }
 
-/// Offers a marker (its identifier, and the frame that it marks), and puts its whole frame, of at most 50 bytes, into
-/// `out`.
+/// Offers a marker (its identifier, and the frame that it marks), and puts its whole frame, of at most 50
+/// bytes, into `out`.
 #[unsafe(no_mangle)]
 pub extern "C" fn bwi_mark(sender: &mut BwiSender, id: u32, frame: u32, out: &mut [u8]) -> usize
     ensures wrote { 0 < result → WroteHead sender.old (Mark id frame) out.old sender.new out.new
@@ -66,7 +66,8 @@ pub extern "C" fn bwi_mark(sender: &mut BwiSender, id: u32, frame: u32, out: &mu
     put_head(sender, &request, out)
 }
 
-/// Offers a field of `bext` with a value of at most 256 bytes, and puts its head, of at most 43 bytes, into `out`.
+/// Offers a field of `bext` with a value of at most 256 bytes, and puts its head, of at most 43 bytes, into
+/// `out`.
 #[unsafe(no_mangle)]
 pub extern "C" fn bwi_field_head(
     sender: &mut BwiSender,
@@ -95,8 +96,8 @@ pub extern "C" fn bwi_close(sender: &mut BwiSender, frames: u64, out: &mut [u8])
     put_head(sender, &request, out)
 }
 
-/// Puts the frame of an ask, of at most 42 bytes, into `out`. Its answer is the notice Next with the least number that
-/// the server has no verdict on.
+/// Puts the frame of an ask, of at most 42 bytes, into `out`. Its answer is the notice Next with the least
+/// number that the server has no verdict on.
 #[unsafe(no_mangle)]
 pub extern "C" fn bwi_ask(sender: &BwiSender, out: &mut [u8]) -> usize
     ensures wrote { 0 < result → WroteFrame (Asks (sender_name sender.now) 0) out.old out.new result }

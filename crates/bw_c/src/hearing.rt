@@ -16,12 +16,12 @@ use bw_wire::Reply;
 #[repr(C)]
 #[derive(Drop)]
 pub struct BwiReply {
-    /// 0: no reply is whole yet. 1: a verdict. 2: a notice. 3: the server read a bad frame. 4: these bytes are no reply,
-    /// and nothing after them can be read.
+    /// 0: no reply is whole yet. 1: a verdict. 2: a notice. 3: the server read a bad frame. 4: these bytes
+    /// are no reply, and nothing after them can be read.
     pub kind: u32,
-    /// Of a reply, 1: the first verdict of an offered request, which was counted. 2: a verdict on a request that has
-    /// one. 3: a notice on an offered request, or the answer to an ask. 4: a reply to another name, to a number that
-    /// wasn't offered, or to a bad frame. Else 0.
+    /// Of a reply, 1: the first verdict of an offered request, which was counted. 2: a verdict on a request
+    /// that has one. 3: a notice on an offered request, or the answer to an ask. 4: a reply to another name,
+    /// to a number that wasn't offered, or to a bad frame. Else 0.
     pub heard: u32,
     /// The number that a verdict or a notice is about.
     pub number: u32,
@@ -33,8 +33,8 @@ pub struct BwiReply {
     pub offset: u64,
 }
 
-/// Takes the reply at the start of these bytes, if it is whole, shows it, and counts it. Returns how many bytes it has,
-/// at most 47; 0 if there is none.
+/// Takes the reply at the start of these bytes, if it is whole, shows it, and counts it. Returns how many
+/// bytes it has, at most 47; 0 if there is none.
 #[unsafe(no_mangle)]
 pub extern "C" fn bwi_hear(sender: &mut BwiSender, bytes: &[u8], reply: &mut BwiReply) -> usize
     ensures used { result ≡ used (length bytes.now) (first_reply bytes.now) }

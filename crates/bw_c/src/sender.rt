@@ -26,12 +26,13 @@ pub struct BwiSender {
     pub settled: u32,
     /// How many of the settled ones are stored.
     pub stored: u32,
-    /// For `settled` and the fifteen numbers after it: one more than the verdict's code, or 0 where there is none yet.
+    /// For `settled` and the fifteen numbers after it: one more than the verdict's code, or 0 where there is
+    /// none yet.
     pub verdicts: [u8; 16],
 }
 
-/// Makes a sender of a name whose first `stored` requests, at most 16,777,216, are stored, none of them a CLOSE.
-/// Returns whether the name and the number are good; if not, nothing changed.
+/// Makes a sender of a name whose first `stored` requests, at most 16,777,216, are stored, none of them a
+/// CLOSE. Returns whether the name and the number are good; if not, nothing changed.
 #[unsafe(no_mangle)]
 pub extern "C" fn bwi_begin(sender: &mut BwiSender, name: &[u8], stored: u32) -> bool
     ensures good { IsTrue result ↔

@@ -8,8 +8,9 @@ ghost use Rattle.bw_journal.specs.Stops.{cut_book};
 ghost use Rattle.bw_wire.specs.Frames.{message_of, asked_name, asked_number};
 ghost use Rattle.bw_wire.specs.Replies.{reply_of};
 ghost use Rattle.bw_delivery.specs.StoppedWorlds.{MayCome};
-ghost use Rattle.bw_delivery.specs.Machines.{IsRunning, IsLeftAt, IsMachine, IsUncalled, TurnsMachine, the_folder};
-ghost use Rattle.bw_delivery.specs.Machines.{AnswersForName, BeginsOverLeft, StartsFound, written_to, runs};
+ghost use Rattle.bw_delivery.specs.Machines.{IsRunning, IsLeftAt, IsMachine, IsUncalled, TurnsMachine};
+ghost use Rattle.bw_delivery.specs.Machines.{the_folder, AnswersForName, BeginsOverLeft, StartsFound};
+ghost use Rattle.bw_delivery.specs.Machines.{written_to, runs};
 ghost use Rattle.bw_delivery.specs.PlayedEvents.{LeavesBook, MayStartIf, StopsIf, StartsIf};
 
 use crate::asks::asked;

@@ -61,8 +61,9 @@ pub struct Rehearsed {
 /// All that was ever sent and written stays: what isn't delivered or brought is lost, and the rest
 /// may come again, in any order. A server stops in a turn in which a disk dies, and none of that
 /// turn's replies is written. One that starts is asked for the sender's name first, and that reply
-/// isn't written either; if a disk dies in that turn of a `StartCounting`, no server runs. If a server runs at the end, it is asked how many numbers of the name
-/// are done; that reply isn't written.
+/// isn't written either; if a disk dies in that turn of a `StartCounting`, no server runs. If a
+/// server runs at the end, it is asked how many numbers of the name are done; that reply isn't
+/// written.
 ///
 /// # Errors
 /// `Memory` if memory was refused to the sender, for the messages and replies, for a folder's copy or

@@ -1,4 +1,5 @@
-//! That a recorder over the C library is a sender of the promise. Each function's contract is a law; nothing runs.
+//! That a recorder over the C library is a sender of the promise. Each function's contract is a law; nothing
+//! runs.
 ghost use Rattle.bw_end_to_end.specs.RecordedFiles.{RecordersHaveFiles};
 ghost use Rattle.bw_end_to_end.specs.RecordersSend.{CountedAreStored, RecordersSend, StructsCount};
 ghost use Rattle.bw_end_to_end.specs.Servers.{in_kept_folder, in_table};
@@ -8,9 +9,9 @@ use bw_folder::{FolderJournal, FolderStore};
 use bw_journal::Journal;
 use bw_store::TakeStore;
 
-/// A program that makes calls of bw_c with its sender, writes over its links what they put, as often as it likes, and
-/// gives `bwi_hear` what the links gave, is a sender of the promise; its struct counts what that sender has. So where it
-/// counts as many requests stored as were offered, each has the verdict Stored.
+/// A program that makes calls of bw_c with its sender, writes over its links what they put, as often as it
+/// likes, and gives `bwi_hear` what the links gave, is a sender of the promise; its struct counts what that
+/// sender has. So where it counts as many requests stored as were offered, each has the verdict Stored.
 pub fn law_recorders()
     ensures sends { RecordersSend }
     ensures counts { StructsCount }

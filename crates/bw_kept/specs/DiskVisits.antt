@@ -8,7 +8,8 @@ use Rattle.bw_disk.specs.declared.reading.ReadFault.{ReadFault}
 use Rattle.bw_recovery.specs.CountedFaults.{CountsOneOf}
 use Rattle.bw_recovery.specs.Findings.{IsFound, SparesFile, leaves_take}
 use Rattle.bw_recovery.specs.Paths.{notes_path, wave_path}
-use Rattle.bw_recovery.specs.Restorings.{ChangesOn, CountsOn, IsFoundOn, IsSoundOn, RestoresOn, StaysLeftOn, is_refused}
+use Rattle.bw_recovery.specs.Restorings.{ChangesOn, CountsOn, IsFoundOn, IsSoundOn, RestoresOn, StaysLeftOn}
+use Rattle.bw_recovery.specs.Restorings.{is_refused}
 use Rattle.bw_recovery.specs.declared.finding.Finding.{Finding}
 
 module _ {D E F H : Type 0} (G : Ghosts D F) (K : Ghosts E H) (folder name : List ℕ) where
@@ -49,6 +50,7 @@ module _ {D E F H : Type 0} (G : Ghosts D F) (K : Ghosts E H) (folder name : Lis
     pub takes_whole : StaysWhole G takes later_takes
     pub notes_whole : StaysWhole K notes later_notes
     pub alike : IsTrue (G.honest takes) → IsTrue (K.honest notes) → IfOk answer (λ alike. IsTrue alike
-        ↔ (is_some (G.contents takes (wave_path folder name)) ≡ is_some (K.contents notes (wave_path folder name))))
+        ↔ (is_some (G.contents takes (wave_path folder name))
+        ≡ is_some (K.contents notes (wave_path folder name))))
     pub failures : CountsOneOf (G.failures takes) (G.failures later_takes) (K.failures notes)
         (K.failures later_notes) (is_disk_fault answer)

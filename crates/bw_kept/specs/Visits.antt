@@ -1,5 +1,6 @@
 -- What is done with a store and a journal of a folder that a server lends.
-use Rattle.std.specs.Prelude.{◌≡◌, ◌⊎◌, ℕ, true, Result, IfOk, IfErr, IsTrue, OnOk, OnErr, List, if◌then◌else◌}
+use Rattle.std.specs.Prelude.{◌≡◌, ◌⊎◌, ℕ, true, Result, IfOk, IfErr, IsTrue, OnOk, OnErr, List}
+use Rattle.std.specs.Prelude.{if◌then◌else◌}
 use Rattle.bw_model.specs.Counts.{Counts}
 use Rattle.bw_disk.specs.ReadFaults.{is_disk_fault}
 use Rattle.bw_disk.specs.declared.reading.ReadFault.{ReadFault}

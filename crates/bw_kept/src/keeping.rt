@@ -63,7 +63,8 @@ pub struct KeptServer<S: TakeStore, J: Journal> {
 }
 
 impl<S: TakeStore, J: Journal> KeptServer<S, J> {
-    ghost use Rattle.bw_kept.specs.KeptServers.{table_server, names_used, names_left_out, was_answered, NotesUse};
+    ghost use Rattle.bw_kept.specs.KeptServers.{table_server, names_used, names_left_out, was_answered};
+    ghost use Rattle.bw_kept.specs.KeptServers.{NotesUse};
 
     /// A server over a folder. Names that are in its table count as used before all others, in any
     /// order.

@@ -23,7 +23,8 @@ pub(crate) struct Looking<'a> {
 
 impl<D: Volume, E: Volume> DisksVisitor<D, E> for Looking<'_> {
     ghost visits = { λ folder visitor takes notes later later_takes later_notes.
-        LooksOn D.Disk E.Disk folder visitor.name.now visitor.limit takes notes later.result later_takes later_notes };
+        LooksOn D.Disk E.Disk folder visitor.name.now visitor.limit
+        takes notes later.result later_takes later_notes };
 
     fn visit(&mut self, folder: &str, takes: &mut D, notes: &mut E) {
         self.result = look(self.alloc, takes, notes, folder, self.limit, self.name);

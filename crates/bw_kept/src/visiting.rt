@@ -7,7 +7,8 @@ ghost use Rattle.bw_folder.specs.JournalFolders.{journals_disk, open_journals, n
 ghost use Rattle.bw_folder.specs.Commits.{IsAllCommitted};
 ghost use Rattle.bw_folder.specs.FolderDisks.{AreOfOneFolder, KeepsStore, KeepsFolderJournal, ShowsAlike};
 ghost use Rattle.bw_kept.specs.Recoveries.{KeepsBothSettings};
-ghost use Rattle.bw_kept.specs.Visits.{ClosesFiles, CommitsJournals, OnlyCloses, IsDifference, RecoversName, delay_by};
+ghost use Rattle.bw_kept.specs.Visits.{ClosesFiles, CommitsJournals, OnlyCloses, IsDifference, RecoversName};
+ghost use Rattle.bw_kept.specs.Visits.{delay_by};
 
 use crate::delay::Delay;
 use crate::recovery::{RecoverFault, Recovered, recover};
@@ -115,7 +116,8 @@ fn confirm_new<D: Volume, E: Volume>(
     ensures made { IfOk result (λ r. r ≡ Recovered.New) }
     ensures opened { OnOk result (open_takes store.new ≡ open_takes store.old) }
     ensures known { OnOk result (open_journals journal.new ≡ open_journals journal.old) }
-    ensures closed { IsAllCommitted journal.old → OnErr result (ClosesFiles name.now store.old journal.old store.new journal.new) }
+    ensures closed { IsAllCommitted journal.old →
+        OnErr result (ClosesFiles name.now store.old journal.old store.new journal.new) }
     ensures alike { AreOfOneFolder store.old journal.old →
         OnOk result (ShowsAlike name.now store.new journal.new) }
     ensures why { AreOfOneFolder store.old journal.old →

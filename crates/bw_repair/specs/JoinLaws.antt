@@ -52,7 +52,8 @@ joined_form form entries others = resized_form (joined_size entries others) form
 -- take carries, with theirs.
 pub record HasChunksOfBoth (t l text : List ℕ) (take : HasReading t) (left : HasReading l) : Type 0 where
   pub prefix : IsPrefix text (joined_form take.form take.entries left.entries) take.entries
-  pub kept : contents_in text (filter is_no_ds64 take.entries) ≡ contents_in t (filter is_no_ds64 take.entries)
+  pub kept : contents_in text (filter is_no_ds64 take.entries)
+      ≡ contents_in t (filter is_no_ds64 take.entries)
   pub added : contents_in text (placed_after take.entries left.entries)
       ≡ contents_in l (filter is_left_chunk left.entries)
 

@@ -19,7 +19,8 @@ pub fn law_leftovers()
     ensures unread { LeftoversAreUnread }
 {}
 
-/// A take with joined chunks has its own as they were and then the others, and is read so, with the same samples.
+/// A take with joined chunks has its own as they were and then the others, and is read so, with the same
+/// samples.
 pub fn law_joined()
     ensures both { JoinedFilesHaveBoth }
     ensures read { JoinedFilesRead }

@@ -26,8 +26,8 @@ pub(crate) struct StatusObserver<'a, P: StatusPort> {
 }
 
 impl<'a, P: StatusPort + Drop> StatusObserver<'a, P> {
-    ghost use Rattle.bw_operators.specs.OperatorPlaces.{AreConnections, IsFreeAt, LeavesOtherPlaces, asked_at};
-    ghost use Rattle.bw_operators.specs.OperatorPlaces.{place_count};
+    ghost use Rattle.bw_operators.specs.OperatorPlaces.{AreConnections, IsFreeAt, LeavesOtherPlaces};
+    ghost use Rattle.bw_operators.specs.OperatorPlaces.{asked_at, place_count};
     ghost use Rattle.bw_serve_status.specs.Growths.{no_growth};
     ghost use Rattle.bw_serve_status.specs.Looks.{Accepts, RespondsToOne, ShowsIn, ShowsOrCloses};
     ghost use Rattle.bw_serve_status.specs.Looks.{moment_of};

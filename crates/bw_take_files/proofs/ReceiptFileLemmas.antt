@@ -1,5 +1,6 @@
 -- The lines of a file of receipts, one more at a time.
-use Rattle.std.proofs.Common.{◌≡◌, ◌++◌, ◌∷◌, [], ◌+◌, ◌<◌, List, ℕ, Bool, true, false, Option, ap, append_assoc, arith, drop, get_or, length, option_to_list, refl, subst, sym, take, ◌∙◌}
+use Rattle.std.proofs.Common.{◌≡◌, ◌++◌, ◌∷◌, [], ◌+◌, ◌<◌, List, ℕ, Bool, true, false, Option, ap, append_assoc, arith, drop, get_or}
+use Rattle.std.proofs.Common.{length, option_to_list, refl, subst, sym, take, ◌∙◌}
 use Rattle.std.specs.Prelude.{map}
 use Rattle.std.specs.Bool.{MatchBool}
 use Rattle.std.specs.Borrow.{Bor}

@@ -1,5 +1,6 @@
 -- Files of receipts: a line for each.
-use Rattle.std.specs.Prelude.{◌≡◌, ◌==◌, ◌+◌, ◌++◌, ◌∷◌, ⊤, ℕ, List, [], Option, Some, None, length, option_to_list}
+use Rattle.std.specs.Prelude.{◌≡◌, ◌==◌, ◌+◌, ◌++◌, ◌∷◌, ⊤, ℕ, List, [], Option, Some, None, length}
+use Rattle.std.specs.Prelude.{option_to_list}
 use Rattle.std.specs.List.{slice_split}
 use Rattle.bw_take_files.specs.Receipts.{IsReceiptLine}
 use Rattle.bw_take_files.specs.declared.receipts.receipt.Receipt.{Receipt}

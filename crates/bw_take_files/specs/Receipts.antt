@@ -1,6 +1,7 @@
 -- The line of a receipt: what its sender read of a take that is stored.
-use Rattle.std.specs.Prelude.{◌≡◌, ◌⊎◌, ◌==◌, ◌<◌, ◌≤◌, ◌^◌, ◌||◌, ◌++◌, ℕ, Bool, List, Option, Some, None, Ok}
-use Rattle.std.specs.Prelude.{IsTrue, codes, decimal, length, map, nat_le, nat_lt, option_and_then, if◌then◌else◌}
+use Rattle.std.specs.Prelude.{◌≡◌, ◌⊎◌, ◌==◌, ◌<◌, ◌≤◌, ◌^◌, ◌||◌, ◌++◌, ℕ, Bool, List, Option, Some, None}
+use Rattle.std.specs.Prelude.{Ok, IsTrue, codes, decimal, length, map, nat_le, nat_lt, option_and_then}
+use Rattle.std.specs.Prelude.{if◌then◌else◌}
 use Rattle.std.specs.List.{after_first, before_first, position_or_len}
 use Rattle.std.specs.Str.{IsUtf8}
 use Rattle.std.specs.Str.Parse.{IsNumeral, digits_value}

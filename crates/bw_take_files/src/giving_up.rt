@@ -5,8 +5,8 @@ ghost use Rattle.bw_disk.specs.DiskSteps.{StaysWhole};
 ghost use Rattle.bw_disk.specs.Volumes.{KeepsEach};
 ghost use Rattle.bw_take_files.specs.GivenUp.{PutsTakeAside, PutsTakeAsideAt, PutsAside, PutsBothAside};
 ghost use Rattle.bw_take_files.specs.GivenUp.{StaysUnlessFailed, StaysUnlessFailedAt, StopsBoth, FailsWith};
-ghost use Rattle.bw_take_files.specs.GivenUp.{AreTakePathsApart, AreWaysClear, ForbidsAside, IsBarred, IsWayClear};
-ghost use Rattle.bw_take_files.specs.GivenUp.{is_disk_failure, paths_in, paths_of};
+ghost use Rattle.bw_take_files.specs.GivenUp.{AreTakePathsApart, AreWaysClear, ForbidsAside, IsBarred};
+ghost use Rattle.bw_take_files.specs.GivenUp.{IsWayClear, is_disk_failure, paths_in, paths_of};
 
 use bw_disk::{ReadFault, Volume};
 use bw_model::Name;
@@ -142,9 +142,11 @@ fn put_both_aside<D: Volume>(
     requires apart { AreTakePathsApart (paths_of places.now) }
     ensures honest { D.honest disk.new ≡ D.honest disk.old }
     ensures failures { Counts (D.failures disk.old) (D.failures disk.new) (is_disk_failure result) }
-    ensures ok { IsTrue (D.honest disk.old) → AreWaysClear standing (paths_of places.now) (D.contents disk.old) →
+    ensures ok { IsTrue (D.honest disk.old) →
+        AreWaysClear standing (paths_of places.now) (D.contents disk.old) →
         OnOk result (PutsBothAside (paths_of places.now) (D.contents disk.old) (D.contents disk.new)) }
-    ensures err { IsTrue (D.honest disk.old) → AreWaysClear standing (paths_of places.now) (D.contents disk.old) →
+    ensures err { IsTrue (D.honest disk.old) →
+        AreWaysClear standing (paths_of places.now) (D.contents disk.old) →
         IfErr result (λ fault. FailsWith fault
         (StopsBoth (paths_of places.now) (D.contents disk.old) (D.contents disk.new))) }
 {

@@ -1,5 +1,6 @@
 -- How often calls of a disk failed while takes were read.
-use Rattle.std.specs.Prelude.{◌≡◌, ℕ, ◌<◌, ◌≤◌, Bool, true, false, List, [], ◌∷◌, IsTrue, IsFalse, Result, Ok, Err}
+use Rattle.std.specs.Prelude.{◌≡◌, ℕ, ◌<◌, ◌≤◌, Bool, true, false, List, [], ◌∷◌, IsTrue, IsFalse, Result, Ok}
+use Rattle.std.specs.Prelude.{Err}
 use Rattle.bw_model.specs.Counts.{last_count}
 use Rattle.bw_disk.specs.declared.reading.ReadFault.{ReadFault}
 use Rattle.bw_disk.specs.declared.reading.ReadFault.TheVariants.{Disk, Memory}

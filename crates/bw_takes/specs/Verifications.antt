@@ -1,14 +1,15 @@
 -- What is reported of takes that there are receipts of: of each that isn't as its receipt says, what is
 -- wrong with it.
-use Rattle.std.specs.Prelude.{◌≡◌, ◌==◌, ◌+◌, ◌++◌, ◌&&◌, ℕ, Bool, true, false, Option, Some, None, List, [], codes}
-use Rattle.std.specs.Prelude.{decimal, fold, length, map, if◌then◌else◌}
+use Rattle.std.specs.Prelude.{◌≡◌, ◌==◌, ◌+◌, ◌++◌, ◌&&◌, ℕ, Bool, true, false, Option, Some, None, List, []}
+use Rattle.std.specs.Prelude.{codes, decimal, fold, length, map, if◌then◌else◌}
 use Rattle.std.specs.Str.{bytes_eq}
 use Rattle.bw_take_files.specs.declared.receipts.receipt.Receipt.{Receipt}
 use Rattle.bw_recovery.specs.Paths.{wave_path, notes_path}
 use Rattle.bw_takes.specs.JudgedTakes.{JudgedTake, Lone, Blank, Wrong, Noted, Altered}
 use Rattle.bw_takes.specs.TakeLines.{word_line}
 use Rattle.bw_takes.specs.TakeReports.{Told, digest_in, take_judged_in}
-use Rattle.bw_takes.specs.TakeSummaries.{TakeSummary, Stands, Unopened, Opened, Faulty, Changed, story_summary}
+use Rattle.bw_takes.specs.TakeSummaries.{TakeSummary, Stands, Unopened, Opened, Faulty, Changed}
+use Rattle.bw_takes.specs.TakeSummaries.{story_summary}
 use Rattle.bw_takes.specs.UnreadEntries.{entry_path, unread_text}
 use Rattle.bw_takes.specs.declared.comparing.Depth.TheVariants.{Journals}
 use Rattle.bw_takes.specs.declared.hashing.SampleDigest.{SampleDigest}

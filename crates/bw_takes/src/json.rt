@@ -4,9 +4,9 @@ ghost use Rattle.serde_json.specs.Read.{read};
 ghost use Rattle.serde_json.specs.View.{members_view, view};
 ghost use Rattle.serde_json.specs.Written.{compact_text};
 ghost use Rattle.bw_journal.specs.Rows.{row_count};
-ghost use Rattle.bw_takes.specs.TakeObjects.{duration_data, faulty_object, take_number_or_null, opened_object};
-ghost use Rattle.bw_takes.specs.TakeObjects.{digest_added, still_object, summary_data, summary_with_digest};
-ghost use Rattle.bw_takes.specs.TakeObjects.{with_digest as members_with};
+ghost use Rattle.bw_takes.specs.TakeObjects.{duration_data, faulty_object, take_number_or_null};
+ghost use Rattle.bw_takes.specs.TakeObjects.{opened_object, digest_added, still_object, summary_data};
+ghost use Rattle.bw_takes.specs.TakeObjects.{summary_with_digest, with_digest as members_with};
 ghost use Rattle.bw_takes.specs.TakeReports.{finding_summary};
 ghost use Rattle.bw_takes.specs.TakeSummaries.{story_summary};
 

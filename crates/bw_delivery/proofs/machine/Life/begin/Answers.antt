@@ -25,8 +25,8 @@ returns-in-Ok-new-clause-running c = λ book lies.
     record {
       limited = ap (λ z. z.limit) c.in-Ok-new.ensures.server ∙ s.limit;
       holds = subst (λ z. ServesBook _ _ no_contents z (cut_book book)) (sym c.in-Ok-new.ensures.server)
-          (begun _ _ (empty_servers_hold _ _) (committed_books_are_covered _ _ (waiting_in_order _ _)) no_contents c.args.limit (cut_book book) c.in_folder-store.result
-          c.in_folder-journal.result c.in-Ok.server s.store s.journal s.limit s.book small
+          (begun _ _ (empty_servers_hold _ _) (committed_books_are_covered _ _ (waiting_in_order _ _)) no_contents c.args.limit
+          (cut_book book) c.in_folder-store.result c.in_folder-journal.result c.in-Ok.server s.store s.journal s.limit s.book small
           (j.folder ∙ c.in_ok-of_takes.ensures.two ∙ sym c.in_ok-of_takes.ensures.one ∙ sym t.folder) (λ name. j.limit)
           refl refl (empty_committed _ c.in_folder-journal.result j.pending)
           (lies_noted c.in_folder-journal.result c.args.limit (cut_book book) _ j.pending there));
