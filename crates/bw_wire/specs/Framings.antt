@@ -1,5 +1,6 @@
 -- What follows a length at the start of a stream's bytes.
-use Rattle.std.specs.Prelude.{◌≡◌, ℕ, ◌+◌, ◌≤◌, Bool, true, false, Option, Some, None, List, length, take, drop}
+use Rattle.std.specs.Prelude.{◌≡◌, ℕ, ◌+◌, ◌≤◌, Bool, true, false, Option, Some, None}
+use Rattle.std.specs.Prelude.{List, length, take, drop}
 use Rattle.bw_model.specs.Bytes.{u32_at, first_that_holds}
 use Rattle.bw_model.specs.Wire.{Length, Cut, Reason}
 use Rattle.bw_model.specs.Stream.{framing_faults, longest_body}
@@ -17,14 +18,15 @@ pub record HasPrefix (longest : ℕ) (bytes : List ℕ) (len : ℕ) : Type 0 whe
   pub short : len ≤ longest
   pub whole : 4 + len ≤ length bytes
 
--- whether more bytes decide nothing of the first frame, by what is wrong with the bytes
-abbrev pub is_whole_by : Option Reason → Bool
-is_whole_by (Some Cut) = false
-is_whole_by _ = true
+-- whether the first frame is decided, by what is wrong with the bytes: only missing ones leave it
+-- open
+abbrev pub is_decided_by : Option Reason → Bool
+is_decided_by (Some Cut) = false
+is_decided_by _ = true
 
--- whether the bytes begin with a whole frame, or a length that no frame has
-abbrev pub has_whole_frame : List ℕ → Bool
-has_whole_frame bytes = is_whole_by (first_that_holds (framing_faults longest_body bytes))
+-- whether the first frame is decided: the bytes begin with a whole frame, or a length that no frame has
+abbrev pub is_decided : List ℕ → Bool
+is_decided bytes = is_decided_by (first_that_holds (framing_faults longest_body bytes))
 
 -- what the bytes begin with, by their length field and the number of bytes that are there
 abbrev pub IsFraming : ℕ → List ℕ → Framing → Type 0

@@ -1,18 +1,20 @@
 //! Digests of bodies in a block of bytes, made in the lanes of vectors.
-ghost use Rattle.std.specs.Prelude.{◌≡◌, ◌≤◌, ◌<◌, ℕ, List, length, take, drop, IfSome, nat_lt};
-ghost use Rattle.std.specs.List.{list_any};
+ghost use Rattle.std.specs.Prelude.{◌≡◌, ◌≤◌, ◌<◌, ◌+◌, ◌-◌, ◌^◌, ℕ, List, length, take, drop, min};
+ghost use Rattle.std.specs.Prelude.{IfSome, is_some, nat_lt};
+ghost use Rattle.std.specs.List.{list_any, sum};
 ghost use Rattle.sha2.specs.Sha256.{sha256};
 ghost use Rattle.bw_digest.specs.Lanes.{InEachLane};
 ghost use Rattle.bw_digest.specs.Messages.{lent_at};
 ghost use Rattle.bw_wire.specs.BodyDigests.{bytes_at, span_at, IsSpanIn, AreDigestsIn, KeepsDigests};
-ghost use Rattle.bw_wire.specs.BodyDigests.{held_bytes, AreDigestsOf};
+ghost use Rattle.bw_wire.specs.BodyDigests.{held_bytes, first_body, AreDigestsOf, lengths_of, fills_lanes};
 
 use crate::frame_prefix::LONGEST_BODY;
 use crate::framing::{Framing, framing_of};
 use bw_digest::{LANES, digests};
 
-/// Hashing in lanes takes as long as hashing so many of the longest body one after another.
-const LANES_TAKE: usize = 5;
+/// Hashing in lanes is taken to need as long as hashing so many of the longest body one after another:
+/// it needs as long as two in a program built for AVX2, and as five in one that isn't.
+const LANES_TAKE: usize = 3;
 
 /// A body among the bytes that a framer holds, by its place among those that aren't used up.
 #[derive(Clone, Copy, Debug, PartialEq, Eq)]
@@ -25,7 +27,9 @@ pub struct HeldBody {
 
 impl HeldBody {
     /// The place after it, at most 2^64 - 1.
-    pub fn end(self) -> usize {
+    pub fn end(self) -> usize
+        ensures { result ≡ min (self.at + self.len) (2 ^ 64 - 1) }
+    {
         self.at.saturating_add(self.len)
     }
 
@@ -38,8 +42,10 @@ impl HeldBody {
     }
 }
 
-/// The body of the first whole frame from a place on.
-pub(crate) fn held_body(bytes: &[u8], from: usize) -> Option<HeldBody> {
+/// The body of the frame at a place, if it is whole.
+pub(crate) fn held_body(bytes: &[u8], from: usize) -> Option<HeldBody>
+    ensures { result ≡ first_body bytes.now from }
+{
     let rest = bytes.get(from..)?;
     let Framing::Body(len) = framing_of(rest, LONGEST_BODY) else {
         return None;
@@ -53,21 +59,15 @@ pub(crate) fn held_body(bytes: &[u8], from: usize) -> Option<HeldBody> {
 /// The digests of up to eight bodies, if it is faster to compute them at once than one after
 /// another. If there are fewer bodies, the others are empty.
 pub fn digests_at_once(bodies: &[&[u8]; LANES]) -> Option<[[u8; 32]; LANES]>
-    ensures { IfSome result (λ digests. AreDigestsOf bodies.now digests) }
+    ensures digests { IfSome result (λ digests. AreDigestsOf bodies.now digests) }
+    // Eight lanes are taken to need as long as three of the longest body.
+    ensures faster { sum (lengths_of bodies.now) < 2 ^ 64 →
+        is_some result ≡ fills_lanes (lengths_of bodies.now) }
 {
-    if fills_lanes(&lengths_of(bodies)) {
+    if fills_lanes(bodies) {
         return Some(digests(bodies));
     }
     None
-}
-
-/// How long each body is.
-fn lengths_of(bodies: &[&[u8]; LANES]) -> [usize; LANES] {
-    let mut lengths = [0; LANES];
-    for lane in 0..LANES {
-        lengths[lane] = bodies[lane].len();
-    }
-    lengths
 }
 
 /// The place of a body in a block of bytes; one of length 0 is none.
@@ -109,7 +109,8 @@ impl BodyDigests {
         all
     }
 
-    /// The first lane with the same body as that before all others, or one before it.
+    /// The first lane that holds nothing of its own, if there is one. New digests have their body in
+    /// every lane, and later bodies lie after it: so a lane with its place, or one before it, is free.
     fn free_lane(&self) -> Option<usize>
         ensures { IfSome result (λ lane. lane < 8) }
     {
@@ -142,7 +143,8 @@ impl BodyDigests {
     }
 }
 
-/// These digests, if one of them is of a body after `start`, and that of one more body.
+/// These digests and that of one more body; of that alone if all of them are used up, since none is
+/// of a body after `start`.
 pub(crate) fn with_digest(
     digests: &Option<BodyDigests>,
     start: usize,
@@ -193,13 +195,15 @@ fn spans_of(block: &[u8], start: usize) -> [Span; LANES]
     spans
 }
 
-/// Whether bodies of these lengths are hashed faster at once than one after another.
-fn fills_lanes(lengths: &[usize; LANES]) -> bool {
+/// Whether these bodies are hashed faster at once than one after another.
+fn fills_lanes(bodies: &[&[u8]; LANES]) -> bool
+    ensures { sum (lengths_of bodies.now) < 2 ^ 64 → result ≡ fills_lanes (lengths_of bodies.now) }
+{
     let mut total = 0usize;
     let mut longest = 0usize;
-    for len in lengths {
-        total = total.saturating_add(*len);
-        longest = longest.max(*len);
+    for body in bodies {
+        total = total.saturating_add(body.len());
+        longest = longest.max(body.len());
     }
     total > longest.saturating_mul(LANES_TAKE)
 }

@@ -1,7 +1,7 @@
 //! A stream of frames that comes in pieces.
-ghost use Rattle.std.specs.Prelude.{◌≡◌, ◌+◌, ◌≤◌, length, IsOk, OnOk, OnErr};
-ghost use Rattle.bw_wire.specs.BodyDigests.{held_bytes, IsDigestOf};
-ghost use Rattle.bw_wire.specs.Framings.{has_whole_frame};
+ghost use Rattle.std.specs.Prelude.{◌≡◌, ◌+◌, ◌≤◌, length, IfSome, IsOk, OnOk, OnErr};
+ghost use Rattle.bw_wire.specs.BodyDigests.{first_body, held_bytes, IsDigestOf};
+ghost use Rattle.bw_wire.specs.Framings.{is_decided};
 
 use crate::body_digests::{BodyDigests, HeldBody, held_body, kept_digest, with_digest};
 use crate::fault::WireFault;
@@ -91,9 +91,9 @@ impl Framer {
         self.intake.feed(piece)
     }
 
-    /// Computes the digests of the bodies of up to eight whole frames that are held, at once, if
-    /// they aren't known and that is faster than one after another. Their messages are given with
-    /// them.
+    /// Computes the digests of the bodies of up to eight whole frames that are held, at once, if none
+    /// of those that are left is known and that is faster than one after another. Their messages are
+    /// given with them.
     ///
     /// # Not specified
     /// Which digests are computed: a message's `digest` doesn't depend on it.
@@ -108,9 +108,9 @@ impl Framer {
         self.digests = BodyDigests::of(self.intake.buffer.as_slice(), self.intake.start);
     }
 
-    /// Whether a whole frame is held, or a length that no frame has.
-    pub fn has_frame(&self) -> bool
-        ensures { result ≡ has_whole_frame self.now.bytes }
+    /// Whether the first frame is decided: it is whole, or has a length that no frame has.
+    pub fn is_decided(&self) -> bool
+        ensures { result ≡ is_decided self.now.bytes }
     {
         match framing_of(self.intake.bytes(), LONGEST_BODY) {
             Framing::Partial => false,
@@ -119,11 +119,11 @@ impl Framer {
         }
     }
 
-    /// The body of the first whole frame from a place on. Places count from the first byte that isn't used up.
-    ///
-    /// # Not specified
-    /// Which body it is, if any: a message's `digest` doesn't depend on it.
-    pub fn held_body(&self, from: usize) -> Option<HeldBody> {
+    /// The body of the frame at a place, if it is whole. Places count from the first byte that isn't
+    /// used up.
+    pub fn held_body(&self, from: usize) -> Option<HeldBody>
+        ensures { result ≡ first_body self.now.bytes from }
+    {
         held_body(self.intake.bytes(), from)
     }
 
@@ -134,13 +134,15 @@ impl Framer {
         body.bytes_of(self.intake.bytes())
     }
 
-    /// Whether the digest of this body is known.
+    /// The digest of this body, if it is known.
     ///
     /// # Not specified
-    /// Whether it is: a message's `digest` doesn't depend on it.
-    pub fn knows_digest(&self, body: HeldBody) -> bool {
-        let at = self.intake.start.saturating_add(body.at);
-        kept_digest(&self.digests, at, body.len).is_some()
+    /// When it is known: a message's `digest` doesn't depend on it.
+    pub fn known_digest(&self, body: HeldBody) -> Option<[u8; 32]>
+        ensures { IfSome result (IsDigestOf (held_bytes self.now.bytes body)) }
+    {
+        let at = self.intake.start.checked_add(body.at)?;
+        kept_digest(&self.digests, at, body.len)
     }
 
     /// Keeps the digest of this body, which was computed elsewhere, for its message. Of more than
