@@ -1,12 +1,10 @@
 -- Steps of a connection.
-use Rattle.std.proofs.Common.{◌≡◌, ◌⊎◌, inl, inr, ℕ, ◌+◌, ◌-◌, ◌≤◌, ◌<◌, Bool, true, Option, Some, None, List, [], ◌∷◌, ◌++◌, length}
+use Rattle.std.proofs.Common.{◌≡◌, ◌⊎◌, inl, inr, ℕ, ◌+◌, ◌≤◌, ◌<◌, Bool, true, Option, Some, None, List, [], ◌∷◌, ◌++◌, length}
 use Rattle.std.proofs.Common.{refl, sym, ap, subst, ◌∙◌, append_assoc, Result, Ok, Err, arith, unwrap_or}
-use Rattle.std.specs.Prelude.{IfErr, IfSome, take, min, OnOk, is_some, false, nat_lt, if◌then◌else◌}
-use Rattle.bw_model.specs.Wire.{framed, Cut, Frame, Kind, Length, Name, Number, Payload, Reason}
-use Rattle.bw_model.specs.Replies.{Reply, reply_body}
-use Rattle.bw_model.specs.Exchange.{replies_bytes}
-use Rattle.std.proofs.lemmas.Grind.{flat_map-append}
-use Rattle.std.proofs.lemmas.List.{append-nil, length-append, length-take}
+use Rattle.std.specs.Prelude.{IfErr, IfSome, take, min, OnOk, is_some, false, not, ◌&&◌, nat_lt, if◌then◌else◌}
+use Rattle.bw_model.specs.Wire.{Cut, Frame, Kind, Length, Name, Number, Payload, Reason}
+use Rattle.bw_model.specs.Replies.{Reply}
+use Rattle.std.proofs.lemmas.List.{append-nil, length-take}
 use Rattle.std.proofs.lemmas.Result.{IfErr-weaker}
 use Rattle.bw_wire.specs.declared.fault.WireFault.{WireFault}
 use Rattle.bw_wire.specs.Reasons.{reason_meaning}
@@ -16,9 +14,8 @@ use Rattle.bw_exchange.specs.declared.serving.ExchangeEnd.TheVariants as ends
 use Rattle.bw_exchange.specs.declared.turns.NotKept.{NotKept}
 use Rattle.bw_exchange.specs.declared.step.StreamEnd.{StreamEnd}
 use Rattle.bw_exchange.specs.declared.step.StreamEnd.TheVariants as streams
-use Rattle.bw_exchange.specs.AnsweredFrames.{Answered, AnswersAll, replies_of}
-use Rattle.bw_exchange.specs.Bounds.{most_before_answer}
-use Rattle.bw_exchange.specs.Done.{AnswersSome, DoesMore, HasDone, IsIdle, last_of}
+use Rattle.bw_exchange.specs.AnsweredFrames.{Answered, AnswersAll}
+use Rattle.bw_exchange.specs.Done.{AnswersSome, DoesMore, HasDone, IsIdle}
 use Rattle.bw_exchange.proofs.Going.{does_none, does_on}
 use Rattle.bw_exchange.specs.Ends.{IsFinal, end_so_far}
 use Rattle.bw_exchange.specs.Parts.{wants_piece, end_of, waiting_in, pending_of}
@@ -34,7 +31,7 @@ use Rattle.bw_connections.specs.Lives.{EndsDrained, EndsServed, IsNoSilence, IsU
 use Rattle.bw_connections.specs.Lives.{Moved, ReadsLink, SendsWaiting, EndsWithFault, Works}
 use Rattle.bw_connections.specs.Lives.{EndsAs, Proceeds, IsInPhase, IsOpen, IsConnectionOver, KeepsPeer, Lives, Settles, Steps}
 use Rattle.bw_connections.specs.Lives.{AnswersHeld, BeginsConnection, expired_at, expired_by, longest_drain, quantum, quiet_since}
-use Rattle.bw_connections.specs.Lives.{silence_of}
+use Rattle.bw_connections.specs.Lives.{has_just_ended, is_heard, silence_of}
 use Rattle.bw_connections.specs.Lives.{HoldsReplies, LeavesNone, LeavesOf, IsDry, IsFinished, IsFull}
 use Rattle.bw_connections.specs.Lives.{Learns, StillReported, ReportsFinish, WhereDrained}
 
@@ -325,11 +322,11 @@ leaves_of_none G waiting x y f = record { bytes = []; left = waiting; waited = r
 
 -- a quantum sends, answers, reads, and looks at the end
 pub moved_on : {L S : Type 0} (G : LinkGhosts L) (answers : S → Frame → List Reply → S → Type 0) (now : ℕ) (s s' : S)
-    (r : Result (Unit {0}) ConnectionEnd) (a b c d e : Connection L) → SendsWaiting G a b →
-    (h : AnswersHeld G answers now b c s s') → ReadsLink G c d → Settles now r d e → StillReported G d.link e.link →
-    OnOk r (Moved G a h.answered e)
-moved_on G answers now s s' (Err end) a b c d e f h g k reported = tt
-moved_on G answers now s s' (Ok x) a b c d e f h g k reported = record {
+    (was_open : Bool) (r : Result (Unit {0}) ConnectionEnd) (a b c d e : Connection L) → SendsWaiting G a b →
+    (h : AnswersHeld G answers now b c s s') → ReadsLink G c d → Settles now was_open r d e →
+    StillReported G d.link e.link → OnOk r (Moved G a h.answered e)
+moved_on G answers now s s' was_open (Err end) a b c d e f h g k reported = tt
+moved_on G answers now s s' was_open (Ok x) a b c d e f h g k reported = record {
   piece = g.piece;
   bytes = f.bytes;
   left = waiting_in b.exchange;
@@ -362,11 +359,11 @@ moved_on G answers now s s' (Ok x) a b c d e f h g k reported = record {
 
 -- what it learns of bytes and room
 pub learns_on : {L S : Type 0} (G : LinkGhosts L) (answers : S → Frame → List Reply → S → Type 0) (now : ℕ) (s s' : S)
-    (r : Result (Unit {0}) ConnectionEnd) (a b c d e : Connection L) → SendsWaiting G a b →
-    AnswersHeld G answers now b c s s' → ReadsLink G c d → Settles now r d e → StillReported G d.link e.link →
+    (was_open : Bool) (r : Result (Unit {0}) ConnectionEnd) (a b c d e : Connection L) → SendsWaiting G a b →
+    AnswersHeld G answers now b c s s' → ReadsLink G c d → Settles now was_open r d e → StillReported G d.link e.link →
     OnOk r (Learns G a e)
-learns_on G answers now s s' (Err end) a b c d e f h g k reported = tt
-learns_on G answers now s s' (Ok x) a b c d e f h g k reported = record { bytes = bytes g.reported; room = room f.room }
+learns_on G answers now s s' was_open (Err end) a b c d e f h g k reported = tt
+learns_on G answers now s s' was_open (Ok x) a b c d e f h g k reported = record { bytes = bytes g.reported; room = room f.room }
   where
     bytes : (d.readable ≡ c.readable) ⊎ IsDry G d → (e.readable ≡ a.readable) ⊎ IsDry G e
     bytes (inl same) = inl (k.4 ∙ (same ∙ (h.readable ∙ f.readable)))
@@ -421,41 +418,54 @@ moved_at G was c new c' answered is to h =
     subst (λ x. c.phase ≡ phases.Serving → Moved G c answered x) to
     (subst (λ x. x.phase ≡ phases.Serving → Moved G x answered new) is h)
 
--- the time stays, or is that of the answer
-pub quiet_on : {L : Type 0} (now : ℕ) (was : Connection L) (answered : List Answered) → was.phase ≡ phases.Serving →
+-- the time stays, or is that of the answer, or of the stream's end
+pub quiet_on : {L : Type 0} (now : ℕ) (was : Connection L) (answered : List Answered) (was_open : Bool)
+    (before : Option StreamEnd) → was.phase ≡ phases.Serving → was_open ≡ not (is_some before) →
     (c c' : Connection L) (r : Result (Unit {0}) ConnectionEnd) → c.phase ≡ was.phase →
-    c.since ≡ quiet_since now was.since was.phase was.phase answered → Settles now r c c' →
-    OnOk r (c'.since ≡ quiet_since now was.since was.phase c'.phase answered)
-quiet_on now was answered serving c c' (Err end) phase since s = tt
-quiet_on now was answered serving c c' (Ok x) phase since s =
-    go c'.phase (s.2 ∙ (ap (λ (p : Phase). quiet_since now c.since p c'.phase []) (phase ∙ serving))) answered
-    (since ∙ ap (λ (p : Phase). quiet_since now was.since p p answered) serving)
-    ∙ ap (λ (p : Phase). quiet_since now was.since p c'.phase answered) (sym serving)
+    c.since ≡ quiet_since now was.since was.phase was.phase (is_heard answered false) → Settles now was_open r c c' →
+    OnOk r (c'.since ≡ quiet_since now was.since was.phase c'.phase
+    (is_heard answered (has_just_ended before (end_of c'.exchange))))
+quiet_on now was answered was_open before serving opened c c' (Err end) phase since s = tt
+quiet_on now was answered was_open before serving opened c c' (Ok x) phase since s =
+    go c'.phase ended (s.2 ∙ (ap (λ (p : Phase). quiet_since now c.since p c'.phase (was_open && is_some (end_of c.exchange)))
+    (phase ∙ serving) ∙ ap (λ (b : Bool). quiet_since now c.since phases.Serving c'.phase b) same)) answered
+    (since ∙ ap (λ (p : Phase). quiet_since now was.since p p (is_heard answered false)) serving)
+    ∙ ap (λ (p : Phase). quiet_since now was.since p c'.phase (is_heard answered ended)) (sym serving)
   where
-    go : (p : Phase) → c'.since ≡ quiet_since now c.since phases.Serving p [] → (xs : List Answered) →
-        c.since ≡ quiet_since now was.since phases.Serving phases.Serving xs →
-        c'.since ≡ quiet_since now was.since phases.Serving p xs
-    go phases.Serving e [] h = e ∙ h
-    go phases.Serving e (x ∷ xs) h = e ∙ h
-    go (phases.Draining fault) e xs h = e
+    ended : Bool
+    ended = has_just_ended before (end_of c'.exchange)
+
+    same : (was_open && is_some (end_of c.exchange)) ≡ ended
+    same = ap (λ (b : Bool). b && is_some (end_of c.exchange)) opened
+        ∙ ap (λ (e : Exchange). has_just_ended before (end_of e)) (sym s.1)
+
+    go : (p : Phase) (b : Bool) → c'.since ≡ quiet_since now c.since phases.Serving p b → (xs : List Answered) →
+        c.since ≡ quiet_since now was.since phases.Serving phases.Serving (is_heard xs false) →
+        c'.since ≡ quiet_since now was.since phases.Serving p (is_heard xs b)
+    go phases.Serving false e [] h = e ∙ h
+    go phases.Serving false e (x ∷ xs) h = e ∙ h
+    go phases.Serving true e [] h = e
+    go phases.Serving true e (x ∷ xs) h = e
+    go (phases.Draining fault) b e xs h = e
 
 -- whatever a call on it returns, a drained connection stays as quiet as it was
-pub quiet_drained : {L : Type 0} (now : ℕ) (c c' : Connection L) (fault : _) → c.phase ≡ phases.Draining fault →
-    c'.phase ≡ c.phase → c'.since ≡ c.since → c'.since ≡ quiet_since now c.since c.phase c'.phase []
-quiet_drained now c c' fault is same since =
+pub quiet_drained : {L : Type 0} (now : ℕ) (c c' : Connection L) (fault : _) (heard : Bool) →
+    c.phase ≡ phases.Draining fault → c'.phase ≡ c.phase → c'.since ≡ c.since →
+    c'.since ≡ quiet_since now c.since c.phase c'.phase heard
+quiet_drained now c c' fault heard is same since =
     since
-    ∙ sym (ap (λ (p : Phase). quiet_since now c.since p c'.phase []) is
-    ∙ ap (λ (p : Phase). quiet_since now c.since (phases.Draining fault) p []) (same ∙ is))
+    ∙ sym (ap (λ (p : Phase). quiet_since now c.since p c'.phase heard) is
+    ∙ ap (λ (p : Phase). quiet_since now c.since (phases.Draining fault) p heard) (same ∙ is))
 
 pub not_served : {L : Type 0} (c : Connection L) (fault : _) → c.phase ≡ phases.Draining fault →
     c.phase ≡ phases.Serving → ⊥
 not_served c fault is serving = let e = sym is ∙ serving in cc
 
 -- what a look at the stream's end leaves
-pub number_left : {L : Type 0} (now : ℕ) (r : Result (Unit {0}) ConnectionEnd) (c c' : Connection L) →
-    Settles now r c c' → c'.number ≡ c.number
-number_left now (Ok x) c c' s = s.0
-number_left now (Err end) c c' s = s.0
+pub number_left : {L : Type 0} (now : ℕ) (was_open : Bool) (r : Result (Unit {0}) ConnectionEnd) (c c' : Connection L) →
+    Settles now was_open r c c' → c'.number ≡ c.number
+number_left now was_open (Ok x) c c' s = s.0
+number_left now was_open (Err end) c c' s = s.0
 
 -- an end of the stream after which nothing may come
 pub ended_served : (x : StreamEnd) → fault_to_drain x ≡ None → EndsServed (Over (ended_by x))
@@ -472,10 +482,10 @@ ended_served (streams.BadFrame fault) h = only_cut (reason_meaning fault.reason)
     only_cut Payload h = absurd cc
 
 -- with which one that is served is over
-pub settled_served : {L : Type 0} (now : ℕ) (r : Result (Unit {0}) ConnectionEnd) (c c' : Connection L) →
-    Settles now r c c' → IfErr r EndsServed
-settled_served now (Ok x) c c' s = tt
-settled_served now (Err end) c c' s = subst EndsServed (sym s.1.3) (ended_served s.1.0 s.1.2)
+pub settled_served : {L : Type 0} (now : ℕ) (was_open : Bool) (r : Result (Unit {0}) ConnectionEnd) (c c' : Connection L) →
+    Settles now was_open r c c' → IfErr r EndsServed
+settled_served now was_open (Ok x) c c' s = tt
+settled_served now was_open (Err end) c c' s = subst EndsServed (sym s.1.3) (ended_served s.1.0 s.1.2)
 
 -- one that is served, or drained, doesn't end for silence
 pub served_aloud : (end : ConnectionEnd) → EndsServed end → IsNoSilence end
@@ -531,26 +541,30 @@ drained_at G c link fault other r is at h =
     subst (λ (x : WireFault). IfErr r (EndsDrained G x link))
     (ap (λ (p : Phase). fault_in p fault) (sym is ∙ at)) h
 
-pub open_left : {L : Type 0} (now : ℕ) (r : Result (Unit {0}) ConnectionEnd) (c c' : Connection L) →
-    Settles now r c c' → OnOk r (IsOpen c')
-open_left now (Ok x) c c' s = s.3
-open_left now (Err end) c c' s = tt
+pub open_left : {L : Type 0} (now : ℕ) (was_open : Bool) (r : Result (Unit {0}) ConnectionEnd) (c c' : Connection L) →
+    Settles now was_open r c c' → OnOk r (IsOpen c')
+open_left now was_open (Ok x) c c' s = s.3
+open_left now was_open (Err end) c c' s = tt
 
 -- the time is that of one that had the same
-pub quiet_as : {L : Type 0} (now later : ℕ) (p : Phase) (answered : List Answered) (c d : Connection L)
+pub quiet_as : {L : Type 0} (now later : ℕ) (p : Phase) (heard : Bool) (c d : Connection L)
     (r : Result (Unit {0}) ConnectionEnd) → c.phase ≡ d.phase → c.since ≡ d.since →
-    OnOk r (later ≡ quiet_since now c.since c.phase p answered) →
-    OnOk r (later ≡ quiet_since now d.since d.phase p answered)
-quiet_as now later p answered c d r phase since h =
-    subst (λ (n : ℕ). OnOk r (later ≡ quiet_since now n d.phase p answered)) since
-    (subst (λ (x : Phase). OnOk r (later ≡ quiet_since now c.since x p answered)) phase h)
+    OnOk r (later ≡ quiet_since now c.since c.phase p heard) →
+    OnOk r (later ≡ quiet_since now d.since d.phase p heard)
+quiet_as now later p heard c d r phase since h =
+    subst (λ (n : ℕ). OnOk r (later ≡ quiet_since now n d.phase p heard)) since
+    (subst (λ (x : Phase). OnOk r (later ≡ quiet_since now c.since x p heard)) phase h)
 
 pub quiet_at : {L : Type 0} (now : ℕ) (was c new c' : Connection L) (answered : List Answered) → was ≡ c → new ≡ c' →
-    new.since ≡ quiet_since now was.since was.phase new.phase answered →
-    c'.since ≡ quiet_since now c.since c.phase c'.phase answered
+    new.since ≡ quiet_since now was.since was.phase new.phase
+    (is_heard answered (has_just_ended (end_of was.exchange) (end_of new.exchange))) →
+    c'.since ≡ quiet_since now c.since c.phase c'.phase
+    (is_heard answered (has_just_ended (end_of c.exchange) (end_of c'.exchange)))
 quiet_at now was c new c' answered is to h =
-    subst (λ x. x.since ≡ quiet_since now c.since c.phase x.phase answered) to
-    (subst (λ x. new.since ≡ quiet_since now x.since x.phase new.phase answered) is h)
+    subst (λ x. x.since ≡ quiet_since now c.since c.phase x.phase
+    (is_heard answered (has_just_ended (end_of c.exchange) (end_of x.exchange)))) to
+    (subst (λ x. new.since ≡ quiet_since now x.since x.phase new.phase
+    (is_heard answered (has_just_ended (end_of x.exchange) (end_of new.exchange)))) is h)
 
 pub drained_on : {P : Type 0} (r : Result (Unit {0}) ConnectionEnd) → P → OnOk r P
 drained_on (Ok x) p = p
@@ -567,7 +581,7 @@ pub answers_held : {L S : Type 0} (G : LinkGhosts L) (answers : S → Frame → 
     (s s' : S) (c c' : Connection L) → c.phase ≡ phases.Serving → wants_piece c.exchange ≡ false → is_some (end_of c.exchange) ≡ false →
     c'.link ≡ c.link → c'.readable ≡ c.readable → c'.writable ≡ c.writable → c'.number ≡ c.number → c'.phase ≡ c.phase →
     (h : AnswersSome answers quantum count s s' c.exchange c'.exchange) →
-    c'.since ≡ quiet_since now c.since c.phase c.phase h.0.answered → AnswersHeld G answers now c c' s s'
+    c'.since ≡ quiet_since now c.since c.phase c.phase (is_heard h.0.answered false) → AnswersHeld G answers now c c' s s'
 answers_held {L} G answers now count s s' c c' serving fed running link readable writable number phase h since = record {
   answered = h.0.answered;
   by_server = h.0.by_server;
@@ -608,7 +622,7 @@ answers_none G answers now s c serving idle = record {
   writable = refl;
   number = refl;
   phase = refl;
-  since = sym (ap (λ (p : Phase). quiet_since now c.since p p []) serving);
+  since = sym (ap (λ (p : Phase). quiet_since now c.since p p false) serving);
 }
 
 -- the possible peer stays the same after a step, and after one more
@@ -631,15 +645,15 @@ answers_on G answers now a b c s s' goes peer number h = (
 
 -- the time, where no frame was answered, and where one was
 pub quiet_where_none : {L : Type 0} (now : ℕ) (c : Connection L) (answered : List Answered) → c.phase ≡ phases.Serving →
-    length answered ≡ 0 → c.since ≡ quiet_since now c.since c.phase c.phase answered
-quiet_where_none now c [] serving none = sym (ap (λ (p : Phase). quiet_since now c.since p p []) serving)
+    length answered ≡ 0 → c.since ≡ quiet_since now c.since c.phase c.phase (is_heard answered false)
+quiet_where_none now c [] serving none = sym (ap (λ (p : Phase). quiet_since now c.since p p false) serving)
 quiet_where_none now c (a ∷ answered) serving none = absurd (omega (arith, none))
 
 pub quiet_where_some : {L : Type 0} (now : ℕ) (c : Connection L) (answered : List Answered) → c.phase ≡ phases.Serving →
-    (length answered ≡ 0 → ⊥) → now ≡ quiet_since now c.since c.phase c.phase answered
+    (length answered ≡ 0 → ⊥) → now ≡ quiet_since now c.since c.phase c.phase (is_heard answered false)
 quiet_where_some now c [] serving some = absurd (some refl)
 quiet_where_some now c (a ∷ answered) serving some =
-    sym (ap (λ (p : Phase). quiet_since now c.since p p (a ∷ answered)) serving)
+    sym (ap (λ (p : Phase). quiet_since now c.since p p true) serving)
 
 -- what a connection is and has done stays
 pub woken : {L : Type 0} (G : LinkGhosts L) (c c' : Connection L) → c'.link ≡ c.link → c'.exchange ≡ c.exchange →

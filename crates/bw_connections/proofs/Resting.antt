@@ -1,12 +1,11 @@
 -- A quantum of a place where nothing can be done.
-use Rattle.std.proofs.Common.{◌≡◌, ◌⊎◌, inl, ℕ, ◌≤◌, ◌<◌, Bool, true, false, Option, Some, None, List, [], ◌∷◌, length}
-use Rattle.std.proofs.Common.{refl, sym, ap, subst, ◌∙◌, arith}
-use Rattle.std.specs.Prelude.{is_some, slice_get, not, ◌&&◌}
+use Rattle.std.proofs.Common.{◌≡◌, inl, ℕ, Bool, true, false, Option, Some, None, List, [], ◌∷◌, length}
+use Rattle.std.proofs.Common.{refl, sym, ap, ◌∙◌, arith}
+use Rattle.std.specs.Prelude.{is_some, slice_get}
 use Rattle.bw_model.specs.Wire.{Frame}
 use Rattle.bw_model.specs.Replies.{Reply}
 use Rattle.bw_exchange.specs.declared.exchange.Exchange.{Exchange}
 use Rattle.bw_exchange.specs.declared.step.StreamEnd.{StreamEnd}
-use Rattle.bw_exchange.specs.AnsweredFrames.{Answered, AnswersAll}
 use Rattle.bw_exchange.specs.Parts.{end_of, waiting_in, wants_piece}
 use Rattle.bw_exchange.proofs.Going.{does_none}
 use Rattle.bw_connections.specs.declared.connection.Connection.{Connection}
@@ -14,7 +13,7 @@ use Rattle.bw_connections.specs.declared.connection.Phase.{Phase}
 use Rattle.bw_connections.specs.declared.connection.Phase.TheVariants as phases
 use Rattle.bw_connections.specs.declared.connections.Connections.{Connections}
 use Rattle.bw_connections.specs.ConnectionTables.{HoldsConnectionAt}
-use Rattle.bw_connections.specs.Lives.{IsOpen, Moved, quiet_since, rests_by, rests_now}
+use Rattle.bw_connections.specs.Lives.{Moved, has_just_ended, quiet_since, rests_by, rests_now}
 use Rattle.bw_connections.specs.Places.{rests_at}
 use Rattle.bw_connections.specs.Quanta.{WorksAt}
 use Rattle.bw_connections.proofs.Going.{finished_at, learns_at, leaves_at, leaves_of_none, moved_at, not_served, quiet_at}
@@ -55,6 +54,11 @@ not_ended e wants = go (end_of e) (e.«open» wants)
     go None h = refl
     go (Some end) h = absurd cc
 
+-- nor does one end while it stays
+none_ends : (e : Option StreamEnd) → has_just_ended e e ≡ false
+none_ends None = refl
+none_ends (Some end) = refl
+
 -- the number of the connection at a place, if there is one
 abbrev number_in : {L : Type 0} → Option (Option (Connection L)) → ℕ
 number_in (Some (Some c)) = c.number
@@ -93,7 +97,8 @@ rests_through {L} G answers place now m s is = record {
   others = (record { others = λ j other. refl; count = refl }, refl, refl);
   unended = λ d at serving none. not_ended d.exchange (rests_there m place d is at).wants;
   since = λ d e at there. quiet_at now d d d e [] refl (at_is d e at there)
-      (sym (ap (λ (p : Phase). quiet_since now d.since p p []) (rests_there m place d is at).serving));
+      (sym (ap (λ (b : Bool). quiet_since now d.since d.phase d.phase b) (none_ends (end_of d.exchange))
+      ∙ ap (λ (p : Phase). quiet_since now d.since p p false) (rests_there m place d is at).serving));
   moved = λ d e at there. moved_at G d d d e [] refl (at_is d e at there)
       (λ serving. still_moved G d (rests_there m place d is at));
   leaves = λ d e at there. leaves_at G d d d e refl (at_is d e at there)
@@ -103,3 +108,10 @@ rests_through {L} G answers place now m s is = record {
   finished = λ d e at there. finished_at G d d d e refl (at_is d e at there) (λ h. h);
   closes = closes_none G place m m;
 }
+
+-- and that is so of a quantum that answers nothing
+pub rests_unanswered : {L S : Type 0} (G : LinkGhosts L) (answers : S → Frame → List Reply → S → Type 0) (place now : ℕ)
+    (m : Connections L) (s : S) → rests_at m place ≡ true →
+    (works : WorksAt G answers place now None m m s s) × (works.answered ≡ [])
+unfolding rests_through
+rests_unanswered G answers place now m s is = (rests_through G answers place now m s is, refl)

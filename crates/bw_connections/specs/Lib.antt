@@ -5,3 +5,4 @@ pub mod Places
 pub mod Quanta
 pub mod ConnectionBytes
 pub mod HeldBodies
+pub mod HeldFrames

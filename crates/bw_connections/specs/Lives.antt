@@ -7,7 +7,7 @@ use Rattle.std.specs.Prelude.{if◌then◌else◌, is_some}
 use Rattle.std.specs.declared.net.socket_addr.SocketAddr.{SocketAddr}
 use Rattle.bw_model.specs.Wire.{Cut, Frame, are_bytes}
 use Rattle.bw_model.specs.Replies.{Reply}
-use Rattle.bw_wire.specs.Framings.{has_whole_frame}
+use Rattle.bw_wire.specs.Framings.{is_decided}
 use Rattle.bw_wire.specs.Held.{longest_message_piece, longest_stream}
 use Rattle.bw_wire.specs.Reasons.{reason_meaning}
 use Rattle.bw_wire.specs.declared.fault.WireFault.{WireFault}
@@ -16,7 +16,6 @@ use Rattle.bw_exchange.specs.declared.serving.ExchangeEnd.TheVariants as ends
 use Rattle.bw_exchange.specs.declared.step.StreamEnd.{StreamEnd}
 use Rattle.bw_exchange.specs.declared.step.StreamEnd.TheVariants as streams
 use Rattle.bw_exchange.specs.AnsweredFrames.{Answered, AnswersAll}
-use Rattle.bw_exchange.specs.Bounds.{most_before_answer}
 use Rattle.bw_exchange.specs.Done.{DoesMore, HasDone, IsIdle, MustWait}
 use Rattle.bw_exchange.specs.Ends.{IsFinal, end_so_far, end_meaning}
 use Rattle.bw_exchange.specs.Parts.{wants_piece, end_of, waiting_in, pending_of}
@@ -230,7 +229,7 @@ silence_by (phases.Draining fault) waiting whole quiet = quiet
 -- how long it is quiet at a time
 abbrev pub silence_of : {L : Type 0} → ℕ → Connection L → ℕ
 silence_of now c = silence_by c.phase (waiting_in c.exchange)
-    (has_whole_frame (pending_of c.exchange).bytes) (now - c.since)
+    (is_decided (pending_of c.exchange).bytes) (now - c.since)
 
 -- how a connection that is quiet for so long ends, by its phase: where that is longer than this
 -- many milliseconds, or it was drained for long enough
@@ -243,26 +242,36 @@ expired_by (phases.Draining fault) idle quiet =
 abbrev pub expired_at : {L : Type 0} → ℕ → ℕ → Connection L → Option ConnectionEnd
 expired_at now idle c = expired_by c.phase idle (silence_of now c)
 
--- the time since which a connection is quiet: that of the quantum where a frame was answered in it,
--- or its draining began
-abbrev pub quiet_since : ℕ → ℕ → Phase → Phase → List Answered → ℕ
-quiet_since now since phase phases.Serving [] = since
-quiet_since now since phase phases.Serving (a ∷ answered) = now
-quiet_since now since phases.Serving (phases.Draining fault) answered = now
-quiet_since now since (phases.Draining was) (phases.Draining fault) answered = since
+-- whether a stream that hadn't ended has ended
+abbrev pub has_just_ended : Option StreamEnd → Option StreamEnd → Bool
+has_just_ended was end = not (is_some was) && is_some end
+
+-- whether frames were answered, or the stream ended
+abbrev pub is_heard : List Answered → Bool → Bool
+is_heard [] ended = ended
+is_heard (a ∷ answered) ended = true
+
+-- the time since which a connection is quiet: that of the quantum where it was heard in it, or its
+-- draining began
+abbrev pub quiet_since : ℕ → ℕ → Phase → Phase → Bool → ℕ
+quiet_since now since phase phases.Serving false = since
+quiet_since now since phase phases.Serving true = now
+quiet_since now since phases.Serving (phases.Draining fault) heard = now
+quiet_since now since (phases.Draining was) (phases.Draining fault) heard = since
 
 -- it is served only until its stream has ended and all replies are sent
 abbrev pub IsOpen : {L : Type 0} → Connection L → Type 0
 IsOpen c = c.phase ≡ phases.Serving → waiting_in c.exchange ≡ [] → end_of c.exchange ≡ None
 
 -- the stream's end is checked: if it has come and all replies are sent, the connection is over if
--- nothing may follow, or else drained
-abbrev pub Settles : {L : Type 0} → ℕ → Result (Unit {0}) ConnectionEnd → Connection L →
+-- nothing may follow, or else drained; if it came while the stream was open the time is noted
+abbrev pub Settles : {L : Type 0} → ℕ → Bool → Result (Unit {0}) ConnectionEnd → Connection L →
     Connection L → Type 0
-Settles now (Ok x) c c' = (c'.number ≡ c.number) × (c'.exchange ≡ c.exchange)
-    × (c'.since ≡ quiet_since now c.since c.phase c'.phase []) × IsOpen c'
+Settles now was_open (Ok x) c c' = (c'.number ≡ c.number) × (c'.exchange ≡ c.exchange)
+    × (c'.since ≡ quiet_since now c.since c.phase c'.phase (was_open && is_some (end_of c.exchange)))
+    × IsOpen c'
     × (c'.readable ≡ c.readable) × (c'.writable ≡ c.writable)
-Settles now (Err end) c c' = (c'.number ≡ c.number)
+Settles now was_open (Err end) c c' = (c'.number ≡ c.number)
     × ((x : StreamEnd) × (end_of c.exchange ≡ Some x) × (fault_to_drain x ≡ None)
     × (end ≡ Over (ended_by x)))
 
@@ -336,7 +345,7 @@ module _ {L : Type 0} (G : LinkGhosts L) where
     pub writable : c'.writable ≡ c.writable
     pub number : c'.number ≡ c.number
     pub phase : c'.phase ≡ c.phase
-    pub since : c'.since ≡ quiet_since now c.since c.phase c.phase answered
+    pub since : c'.since ≡ quiet_since now c.since c.phase c.phase (is_heard answered false)
 
   -- A quantum of a connection, at this time: the server answered this many frames of it.
   pub record Works {S : Type 0} (answers : S → Frame → List Reply → S → Type 0) (now : ℕ)
@@ -349,7 +358,8 @@ module _ {L : Type 0} (G : LinkGhosts L) where
     -- what left had waited before it
     pub leaves : LeavesOf G (waiting_in c.exchange) c.link c'.link
     pub number : c'.number ≡ c.number
-    pub since : OnOk result (c'.since ≡ quiet_since now c.since c.phase c'.phase answered)
+    pub since : OnOk result (c'.since ≡ quiet_since now c.since c.phase c'.phase
+        (is_heard answered (has_just_ended (end_of c.exchange) (end_of c'.exchange))))
     pub unended : OnOk result (IsOpen c')
     pub moved : c.phase ≡ phases.Serving → OnOk result (Moved G c answered c')
     pub lets_go : (fault : WireFault) → c.phase ≡ phases.Draining fault →

@@ -14,8 +14,8 @@ use Rattle.bw_connections.specs.declared.connections.Connections.{Connections}
 use Rattle.bw_connections.specs.ConnectionTables.{Adds, HoldsConnectionAt, tagged, those}
 use Rattle.bw_connections.specs.Lives.{BeginsConnection, EndsDrained, EndsServed, IsNoSilence, IsOpen}
 use Rattle.bw_connections.specs.Lives.{KeepsPeer, IsFinished, Learns, DropsSent, Moved, KeepsConnection}
-use Rattle.bw_connections.specs.Lives.{LeavesOf, quantum, quiet_since}
-use Rattle.bw_exchange.specs.Parts.{waiting_in}
+use Rattle.bw_connections.specs.Lives.{LeavesOf, has_just_ended, is_heard, quantum, quiet_since}
+use Rattle.bw_exchange.specs.Parts.{end_of, waiting_in}
 use Rattle.bw_connections.specs.Places.{begun_of, connection_count, refused_of}
 
 -- the other places are as they were
@@ -112,8 +112,10 @@ pub record WorksAt {L S : Type 0} (G : LinkGhosts L) (answers : S → Frame → 
   pub adds : Adds G m (tagged number answered) (those closed) m'
   pub others : StaysAt place m m'
   pub unended : (c : Connection L) → HoldsConnectionAt m' place c → IsOpen c
+  -- it is quiet since this quantum if frames were answered, or its stream ended
   pub since : (c c' : Connection L) → HoldsConnectionAt m place c → HoldsConnectionAt m' place c' →
-      c'.since ≡ quiet_since now c.since c.phase c'.phase answered
+      c'.since ≡ quiet_since now c.since c.phase c'.phase
+      (is_heard answered (has_just_ended (end_of c.exchange) (end_of c'.exchange)))
   -- one that continues was read from and sent to where that was possible, and fewer frames than a
   -- quantum were answered only if its exchange had to wait
   pub moved : (c c' : Connection L) → HoldsConnectionAt m place c → HoldsConnectionAt m' place c' →

@@ -46,7 +46,8 @@ pub(crate) struct Connection<L> {
     readable: bool,
     /// Whether there may be room to write: until the link says that there is none.
     writable: bool,
-    /// When its last whole frame was answered, or since when it drains, in milliseconds.
+    /// When its last frame was answered or its stream ended, or since when it drains, in
+    /// milliseconds.
     since: u64,
 }
 
@@ -54,8 +55,9 @@ impl<L: Link> Connection<L> {
     ghost use Rattle.bw_connections.specs.Lives.{BeginsConnection, Proceeds, KeepsConnection};
     ghost use Rattle.bw_connections.specs.Lives.{AnswersHeld, Settles, Works};
     ghost use Rattle.bw_connections.specs.Lives.{EndsDrained, IsUpToDate, KeepsPeer, ReadsLink};
-    ghost use Rattle.bw_connections.specs.Lives.{HoldsReplies, SendsWaiting, LeavesNone, LeavesOf, can_go_on, rests_now};
-    ghost use Rattle.bw_connections.specs.Lives.{IsFinished, Learns, DropsSent, StillReported, expired_at, silence_of};
+    ghost use Rattle.bw_connections.specs.Lives.{HoldsReplies, SendsWaiting, LeavesNone, LeavesOf};
+    ghost use Rattle.bw_connections.specs.Lives.{IsFinished, Learns, DropsSent, StillReported};
+    ghost use Rattle.bw_connections.specs.Lives.{can_go_on, rests_now, expired_at, silence_of};
 
     /// Creates a connection over this link, which has given and taken nothing yet.
     ///
@@ -121,8 +123,8 @@ impl<L: Link> Connection<L> {
         false
     }
 
-    /// How long it is quiet at time `now`, in milliseconds: not at all if it holds a whole frame that
-    /// the next quantum answers.
+    /// How long it is quiet at time `now`, in milliseconds: not at all if it holds a frame that the
+    /// next quantum answers, or refuses.
     fn silence(&self, now: u64) -> u64
         ensures { result ≡ silence_of now self.now }
     {
@@ -131,7 +133,7 @@ impl<L: Link> Connection<L> {
             return quiet;
         }
         if self.exchange.outgoing().is_empty() {
-            return if self.exchange.framer().has_frame() {
+            return if self.exchange.framer().is_decided() {
                 0
             } else {
                 quiet
@@ -185,10 +187,11 @@ impl<L: Link> Connection<L> {
         if let Phase::Draining(fault) = self.phase {
             return self.drain(fault, buffer);
         }
+        let was_open = self.exchange.end().is_none();
         self.send_waiting()?;
         self.answer_held(server, now);
         self.receive_piece(buffer)?;
-        self.settle(now)
+        self.settle(now, was_open)
     }
 
     /// Sends some of the unsent bytes, if there may be room.
@@ -312,25 +315,29 @@ impl<L: Link> Connection<L> {
     }
 
     /// Ends the connection if its stream has ended and all replies are sent; after a bad frame what
-    /// still comes is drained first.
+    /// still comes is drained first. Notes the time if its stream was open before the quantum: the
+    /// last reply still leaves, however long the peer was silent.
     ///
     /// # Errors
     /// How the connection ended.
-    fn settle(&mut self, now: u64) -> Result<(), ConnectionEnd>
+    fn settle(&mut self, now: u64, was_open: bool) -> Result<(), ConnectionEnd>
         requires { self.old.phase ≡ Phase.Serving }
         ensures goes { Proceeds L.Link result self.old [] self.new }
         ensures peer { KeepsPeer L.Link self.old.link self.new.link }
         ensures leaves { LeavesNone L.Link self.old.link self.new.link }
-        ensures settles { Settles now result self.old self.new }
+        ensures settles { Settles now was_open result self.old self.new }
         ensures reported { StillReported L.Link self.old.link self.new.link }
         ensures finished { OnOk result (IsFinished L.Link self.new) }
     {
-        if !self.is_all_out() {
-            return Ok(());
-        }
         let Some(end) = self.exchange.end() else {
             return Ok(());
         };
+        if !self.is_all_out() {
+            if was_open {
+                self.since = now;
+            }
+            return Ok(());
+        }
         let Some(fault) = fault_to_drain(end) else {
             return Err(ConnectionEnd::Over(ExchangeEnd::from(end)));
         };

@@ -1,6 +1,6 @@
 //! Many connections over one server, each at its own place.
 ghost use Rattle.std.specs.Prelude.{◌≡◌, ◌≤◌, ◌<◌, [], List, length, vec_len, slice_get, Some, None, IfOk};
-ghost use Rattle.std.specs.Prelude.{◌+◌, ◌^◌, Err, OnOk, OnErr, IfSome};
+ghost use Rattle.std.specs.Prelude.{◌+◌, ◌^◌, Err, OnOk, OnErr, IfSome, is_some};
 ghost use Rattle.bw_wire.specs.Held.{longest_message_piece};
 ghost use Rattle.bw_connections.specs.ConnectionTables.{SetsPlace};
 
@@ -65,8 +65,9 @@ pub struct Connections<L> {
 
 impl<L: Link + Drop> Connections<L> {
     ghost use Rattle.bw_connections.specs.ConnectionTables.{KeepsConnections, Adds, IsFree, those};
-    ghost use Rattle.bw_connections.specs.Quanta.{BeginsAt, EndsIts, IsEmpty, LeavesOthers, RefusesLink, StaysAt};
-    ghost use Rattle.bw_connections.specs.Quanta.{ExistedAt, ExistedUnder, HoldsNoReplies, WakesAt, WorksAt};
+    ghost use Rattle.bw_connections.specs.Quanta.{BeginsAt, EndsIts, IsEmpty, LeavesOthers, RefusesLink};
+    ghost use Rattle.bw_connections.specs.Quanta.{StaysAt, ExistedAt, ExistedUnder, HoldsNoReplies};
+    ghost use Rattle.bw_connections.specs.Quanta.{WakesAt, WorksAt};
     ghost use Rattle.bw_connections.specs.Places.{begun_of, connection_count, can_go_on_at, rests_at};
     ghost use Rattle.bw_connections.specs.Places.{end_of_connection, expired_there};
     ghost use Rattle.bw_connections.specs.Places.{first_free_place, refused_of};
@@ -248,9 +249,16 @@ impl<L: Link + Drop> Connections<L> {
         connection.expired(now, idle)
     }
 
+    /// Whether `expire` ends the connection at a place, if one is there.
+    pub fn expires(&self, place: usize, now: u64, idle: u64) -> bool
+        ensures { result ≡ is_some (expired_there now idle self.now place) }
+    {
+        self.expired_at(place, now, idle).is_some()
+    }
+
     /// Ends the connection at a place if it was quiet for longer than `idle` milliseconds, or
-    /// drained for longer than 2,000, and returns it. One that holds a whole frame which its next
-    /// quantum answers isn't quiet.
+    /// drained for longer than 2,000, and returns it. One that holds a frame which its next quantum
+    /// answers, or refuses, isn't quiet.
     pub fn expire(&mut self, place: usize, now: u64, idle: u64) -> Option<Closed<L>>
         requires place { place < connection_count self.old }
         ensures adds { Adds L.Link self.old [] (those result) self.new }

@@ -85,7 +85,7 @@ impl<L: Link + Drop> Connections<L> {
         }
     }
 
-    /// The body of the first whole frame that the connection at a place holds, after so many bytes.
+    /// The body of the whole frame that the connection at a place holds after so many bytes.
     fn body_from(&self, place: usize, from: usize) -> Option<HeldBody> {
         let Some(Some(connection)) = self.places.get(place) else {
             return None;
@@ -98,7 +98,7 @@ impl<L: Link + Drop> Connections<L> {
         let Some(Some(connection)) = self.places.get(place) else {
             return false;
         };
-        connection.exchange.framer().knows_digest(body)
+        connection.exchange.framer().known_digest(body).is_some()
     }
 
     /// Hashes a batch, if that is faster than its bodies one after another.

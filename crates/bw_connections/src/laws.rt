@@ -1,5 +1,6 @@
 //! Laws of many connections. Each function's contract is one; nothing runs.
 ghost use Rattle.bw_connections.specs.ConnectionBytes.{EachIsServed, QuantaLeaveCommitted};
+ghost use Rattle.bw_connections.specs.HeldFrames.{HeldFramesAreHeard};
 
 use bw_ports::Link;
 
@@ -18,4 +19,11 @@ pub fn law_connections<L: Link>()
 /// byte of a reply leaves before its frame is.
 pub fn law_leaves<L: Link>()
     ensures { QuantaLeaveCommitted L.Link }
+{}
+
+/// A connection that holds a whole frame isn't quiet, unless replies wait; and no frame stays held: in
+/// its next quantum frames of it are answered, or the frame ends its stream, as BYE or as a bad one.
+pub fn law_held_frames<L: Link>()
+    // Once frames are answered it isn't quiet at the time of that quantum.
+    ensures { HeldFramesAreHeard L.Link }
 {}

@@ -4,6 +4,7 @@ mod compare;
 mod ends;
 mod garbage;
 mod growths;
+mod hashed;
 mod hosts;
 mod logged;
 mod memory_network;

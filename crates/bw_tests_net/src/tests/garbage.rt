@@ -15,7 +15,7 @@ const AFTER: &[u8] = b"\0\0\0\0\
     \x10\0\0\0\x05\x02a1\x02\0\0\0\x02\0\0\0\0\0\0\0";
 
 /// The reply to the bad frame.
-const BAD_FRAME: &[u8] = b"\x0a\0\0\0\x83\x01\0\0\0\0\0\0\0\0";
+pub(crate) const BAD_FRAME: &[u8] = b"\x0a\0\0\0\x83\x01\0\0\0\0\0\0\0\0";
 
 const IN_PIECES: &[Visit] = &[Visit(
     1,

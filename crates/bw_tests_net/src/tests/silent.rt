@@ -1,5 +1,6 @@
 //! Recorders that send no whole frame, or take no reply, beside another.
 use crate::tests::compare::same;
+use crate::tests::garbage::BAD_FRAME;
 use crate::tests::play::{
     ALL, FIRST, OTHERS, QUICK_OTHER, TAKE, VERDICTS, bounds, is_over, is_reported, serve,
 };
@@ -48,6 +49,28 @@ const STEADY: &[Visit] = &[Visit(
         ALL,
     ),
 )];
+
+/// A frame in two rounds.
+const HELD: &[Visit] = &[Visit(
+    1,
+    Comes::Peer(
+        TAKE,
+        &[Give::Bytes(10), Give::Bytes(12), Give::Bytes(36)],
+        ALL,
+    ),
+)];
+
+/// A bad frame, after a round without bytes.
+const LATE_BAD: &[Visit] = &[Visit(
+    1,
+    Comes::Peer(b"\0\0\0\0", &[Give::Nothing, Give::Bytes(4)], ALL),
+)];
+
+/// A part of a frame, and the end in the next round.
+const CUT: &[Visit] = &[Visit(1, Comes::Peer(b"\x12\0\0", &[Give::Bytes(3)], ALL))];
+
+/// The reply to a first frame that is cut off.
+const CUT_FRAME: &[u8] = b"\x0a\0\0\0\x83\x06\0\0\0\0\0\0\0\0";
 
 /// Compares a run of one of these beside `QUICK_OTHER`: its replies, how many bytes it gave, and
 /// when it was ended.
@@ -114,4 +137,34 @@ fn who_comes_late_is_quiet_since_then(rt: HostRuntime) -> Result<(), Fail> {
 fn what_comes_is_answered_before_silence_is_looked_for(rt: HostRuntime) -> Result<(), Fail> {
     // each round comes later than the idle time after the one before
     is_served(&rt, rt.alloc(), STEADY, 300, 250)
+}
+
+#[test]
+fn who_waits_for_an_answer_is_not_silent(rt: HostRuntime) -> Result<(), Fail> {
+    // the frame is whole, and answered, in rounds later than the idle time
+    is_served(&rt, rt.alloc(), HELD, 300, 250)
+}
+
+/// Compares a run over a peer whose bad frame is answered after the idle time.
+fn is_refused(
+    rt: &impl Abort,
+    alloc: Global,
+    visits: &'static [Visit],
+    reply: &[u8],
+) -> Result<(), Fail> {
+    let plan = Plan::over(visits, 300, 100);
+    let received = serve(alloc, &bounds(1, 1, 250), plan)?;
+    is_over(rt, &received, Exit::Done, b"exchange 0 BadFrame\n");
+    is_reported(rt, &received, 0, reply);
+    Ok(())
+}
+
+#[test]
+fn who_sends_a_bad_frame_late_gets_its_reply(rt: HostRuntime) -> Result<(), Fail> {
+    is_refused(&rt, rt.alloc(), LATE_BAD, BAD_FRAME)
+}
+
+#[test]
+fn who_ends_late_in_a_frame_gets_its_reply(rt: HostRuntime) -> Result<(), Fail> {
+    is_refused(&rt, rt.alloc(), CUT, CUT_FRAME)
 }

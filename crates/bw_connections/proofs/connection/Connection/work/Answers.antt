@@ -1,11 +1,13 @@
 use Rattle.std.proofs.Common.{rules, ◌≡◌, ◌∙◌, refl, [], arith, Err, Ok}
+use Rattle.std.specs.Prelude.{is_some, not}
 use Rattle.bw_connections.specs.declared.connection.Phase.TheVariants as phases
 use Rattle.std.proofs.lemmas.Result.{err_from_is_err_and}
 use Rattle.bw_connections.proofs.Going.{answers_on, goes_at_last, not_served, number_left, quiet_as, quiet_drained, quiet_on}
 use Rattle.bw_connections.proofs.Going.{drained_on, finished_still, learns_on, open_left, peer_then}
 use Rattle.bw_connections.proofs.Going.{breaks_off, drained_at, drained_no_silence, moved_on, served_no_silence}
-use Rattle.bw_exchange.specs.Parts.{waiting_in}
-use Rattle.bw_connections.proofs.Going.{settled_served, goes_after, steps_on, leaves_on, leaves_same, leaves_of_none}
+use Rattle.bw_exchange.specs.Parts.{end_of, waiting_in}
+use Rattle.bw_connections.specs.Lives.{has_just_ended, is_heard}
+use Rattle.bw_connections.proofs.Going.{settled_served, leaves_on, leaves_same, leaves_of_none}
 use Rattle.bw_connections.proofs.connection.Connection.work.Goals as goal
 
 pub returns-in-Draining : goal.returns-in-Draining
@@ -21,7 +23,8 @@ returns-in-Draining g c =
       peer = d.peer;
       leaves = leaves_of_none g.L.Link (waiting_in old.exchange) old.link c.drain.new.self.link d.leaves;
       number = d.stays.number;
-      since = drained_on c.drain.result (quiet_drained c.args.now old c.drain.new.self c.in-Draining.fault is d.stays.phase d.stays.since);
+      since = drained_on c.drain.result (quiet_drained c.args.now old c.drain.new.self c.in-Draining.fault
+          (has_just_ended (end_of old.exchange) (end_of c.drain.new.self.exchange)) is d.stays.phase d.stays.since);
       unended = drained_on c.drain.result (λ serving none.
           absurd (not_served c.drain.new.self c.in-Draining.fault (d.stays.phase ∙ is) serving));
       moved = λ serving. absurd (not_served old c.in-Draining.fault is serving);
@@ -82,6 +85,8 @@ returns g c =
     let serving : old.phase ≡ phases.Serving = search rules in
     let phase = then_fed.stays.phase ∙ h.phase in
     let since = then_fed.stays.since ∙ h.since in
+    let was_open = c.is_none-was_open.result in
+    let opened : was_open ≡ not (is_some (end_of old.exchange)) = search rules in
     record {
       answered = h.answered;
       by_server = h.by_server;
@@ -94,20 +99,21 @@ returns g c =
           (leaves_on g.L.Link (waiting_in old.exchange) old.link held.link fed.link
           (leaves_on g.L.Link (waiting_in old.exchange) old.link sent.link held.link first.leaves
           (leaves_same g.L.Link sent.link held.link h.link)) then_fed.leaves) s.leaves;
-      number = number_left c.args.now c.settle.result fed c.settle.new.self s.settles ∙ (then_fed.stays.number ∙ on.2);
-      since = quiet_as c.args.now c.settle.new.self.since c.settle.new.self.phase h.answered sent old c.settle.result
-          first.stays.phase first.stays.since
-          (quiet_on c.args.now sent h.answered (first.stays.phase ∙ serving) fed
+      number = number_left c.args.now was_open c.settle.result fed c.settle.new.self s.settles ∙ (then_fed.stays.number ∙ on.2);
+      since = quiet_as c.args.now c.settle.new.self.since c.settle.new.self.phase
+          (is_heard h.answered (has_just_ended (end_of old.exchange) (end_of c.settle.new.self.exchange))) sent old
+          c.settle.result first.stays.phase first.stays.since
+          (quiet_on c.args.now sent h.answered was_open (end_of old.exchange) (first.stays.phase ∙ serving) opened fed
           c.settle.new.self c.settle.result phase since s.settles);
-      unended = open_left c.args.now c.settle.result fed c.settle.new.self s.settles;
+      unended = open_left c.args.now was_open c.settle.result fed c.settle.new.self s.settles;
       moved = λ at. moved_on g.L.Link g.T.Turns.answers c.args.now c.args.server.now c.answer_held.new.server
-          c.settle.result old sent held fed c.settle.new.self first.sends h then_fed.reads s.settles s.reported;
+          was_open c.settle.result old sent held fed c.settle.new.self first.sends h then_fed.reads s.settles s.reported;
       lets_go = λ fault at. absurd (not_served old fault at serving);
       learns = learns_on g.L.Link g.T.Turns.answers c.args.now c.args.server.now c.answer_held.new.server
-          c.settle.result old sent held fed c.settle.new.self first.sends h then_fed.reads s.settles s.reported;
+          was_open c.settle.result old sent held fed c.settle.new.self first.sends h then_fed.reads s.settles s.reported;
       finished = λ was. s.finished;
       no_silence = served_no_silence c.settle.result
-          (settled_served c.args.now c.settle.result fed c.settle.new.self s.settles);
-      served = λ at. settled_served c.args.now c.settle.result fed c.settle.new.self s.settles;
+          (settled_served c.args.now was_open c.settle.result fed c.settle.new.self s.settles);
+      served = λ at. settled_served c.args.now was_open c.settle.result fed c.settle.new.self s.settles;
       heard = λ fault at. absurd (not_served old fault at serving);
     }

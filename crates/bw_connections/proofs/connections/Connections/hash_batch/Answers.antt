@@ -10,4 +10,4 @@ keep_digest-requires g c =
     let digest = slice_index_or c.in-Some.digests lane [] in
     subst (λ m. IsDigestOf (body_held m placed) digest) (sym c.loop-lane.invariant)
     (subst (λ bytes. IsDigestOf bytes digest) (c.bodies_of.ensures lane c.loop-lane-test.true)
-    (c.in-Some.ensures lane c.loop-lane-test.true))
+    (c.in-Some.ensures.digests lane c.loop-lane-test.true))
