@@ -11,6 +11,7 @@ pub mod Guarding
 mod GuardedCalls
 mod Running
 mod Silence
+mod Resting
 pub mod HeldRuns
 pub mod RunSteps
 pub mod AnsweredRuns

@@ -1,11 +1,11 @@
 //! An event loop: many connections, as they come and end.
 ghost use Rattle.std.specs.Prelude.{◌≡◌, ◌+◌, ◌≤◌, ◌<◌, ℕ, List, [], ◌∷◌, vec_len, IfOk};
-ghost use Rattle.std.specs.Prelude.{OnOk};
+ghost use Rattle.std.specs.Prelude.{OnOk, is_some, not, ◌&&◌};
 ghost use Rattle.bw_stream.specs.Moves.{failures_after};
 ghost use Rattle.bw_exchange.specs.MeteredServers.{metered_server};
 
 use crate::end_counts::EndCounts;
-use crate::guarded::{Gate, Quantum, work_guarded};
+use crate::guarded::{Gate, PeerQuantum, work_guarded};
 use crate::line::print_end;
 use crate::observing::{RoundObserver, RoundReport};
 use crate::peer_slot::{PeerSlot, address_at, empty_peer_slots, put_at, report_at, swap_at};
@@ -51,7 +51,7 @@ pub(crate) struct EventLoop<L> {
 
 impl<L: Link + Drop> EventLoop<L> {
     ghost use Rattle.bw_connections.specs.ConnectionTables.{IsFree};
-    ghost use Rattle.bw_connections.specs.Places.{begun_of, connection_count};
+    ghost use Rattle.bw_connections.specs.Places.{begun_of, connection_count, expired_there, rests_at};
     ghost use Rattle.bw_serve.specs.Admissions.{Admits};
     ghost use Rattle.bw_serve.specs.EventLoops.{CountsEnds, Grows, HasPeerSlots, IsNew, InTurn};
     ghost use Rattle.bw_serve.specs.EventLoops.{LetsIn, Withholds, WithholdsAt, WithholdsUnkept};
@@ -172,7 +172,7 @@ impl<L: Link + Drop> EventLoop<L> {
                 return Ok(());
             };
             match reactor.accept(place) {
-                Ok(accepted) => self.peer_slot(place, accepted, now),
+                Ok(accepted) => self.put_peer(place, accepted, now),
                 Err(TryAcceptFault::Nobody) => return Ok(()),
                 Err(TryAcceptFault::Gone) => {}
                 Err(TryAcceptFault::Closed) => return Err(Shut),
@@ -183,7 +183,7 @@ impl<L: Link + Drop> EventLoop<L> {
 
     /// Puts an accepted peer at a free place. If memory is refused, its link is closed and counted;
     /// the peer may connect again.
-    fn peer_slot(&mut self, place: usize, accepted: Accepted<L>, now: u64)
+    fn put_peer(&mut self, place: usize, accepted: Accepted<L>, now: u64)
         requires free { IsFree self.old.connections place }
         requires place { place < vec_len self.old.peer_slots }
         requires given { L.given accepted.link [] }
@@ -210,9 +210,10 @@ impl<L: Link + Drop> EventLoop<L> {
         faults: &mut E,
     )
         requires peer_slots { HasPeerSlots self.old }
-        ensures in_turn { InTurn L.Link (guarded_answers T.answers round.now.allow.now) O.Sink E.Sink round.now.log
-            round.now.time round.now.idle (connection_count self.old.connections) self.old self.new
-            (metered_server server.old) (metered_server server.new) out.old out.new faults.old faults.new }
+        ensures in_turn { InTurn L.Link (guarded_answers T.answers round.now.allow.now) O.Sink E.Sink
+            round.now.log round.now.time round.now.idle (connection_count self.old.connections) self.old
+            self.new (metered_server server.old) (metered_server server.new) out.old out.new faults.old
+            faults.new }
     {
         for place in 0..self.connections.places() {
             self.serve_place(place, server, round, out, faults);
@@ -232,10 +233,14 @@ impl<L: Link + Drop> EventLoop<L> {
     )
         requires place { place < connection_count self.old.connections }
         requires peer_slots { HasPeerSlots self.old }
-        ensures { ServesPlace L.Link (guarded_answers T.answers round.now.allow.now) O.Sink E.Sink round.now.log
-            round.now.time round.now.idle place self.old self.new (metered_server server.old)
+        ensures { ServesPlace L.Link (guarded_answers T.answers round.now.allow.now) O.Sink E.Sink
+            round.now.log round.now.time round.now.idle place self.old self.new (metered_server server.old)
             (metered_server server.new) out.old out.new faults.old faults.new }
     {
+        // of most places, in most rounds: nothing is moved there and back
+        if self.is_at_rest(place, round) {
+            return;
+        }
         if let Some(closed) = self.work(place, server, round) {
             self.end(place, closed, round.log, out, faults);
             return;
@@ -244,6 +249,15 @@ impl<L: Link + Drop> EventLoop<L> {
             return;
         };
         self.end(place, closed, round.log, out, faults);
+    }
+
+    /// Whether a quantum of the connection at a place would change nothing, and it isn't silent too
+    /// long.
+    fn is_at_rest(&self, place: usize, round: &Round<'_>) -> bool
+        ensures { result ≡ rests_at self.now.connections place
+            && not (is_some (expired_there round.now.time round.now.idle self.now.connections place)) }
+    {
+        self.connections.rests(place) && !self.connections.expires(place, round.time, round.idle)
     }
 
     /// Has the server commit what it answered in the round, before any of it leaves. If a write
@@ -319,10 +333,10 @@ impl<L: Link + Drop> EventLoop<L> {
     ) -> Option<Closed<L>>
         requires place { place < connection_count self.old.connections }
         requires peer_slots { HasPeerSlots self.old }
-        ensures { WorksCounted L.Link (guarded_answers T.answers round.now.allow.now) place round.now.time result
-            self.old self.new (metered_server server.old) (metered_server server.new) }
+        ensures { WorksCounted L.Link (guarded_answers T.answers round.now.allow.now) place round.now.time
+            result self.old self.new (metered_server server.old) (metered_server server.new) }
     {
-        let quantum = Quantum {
+        let quantum = PeerQuantum {
             place,
             time: round.time,
             gate: Gate {
@@ -345,8 +359,8 @@ impl<L: Link + Drop> EventLoop<L> {
         closed
     }
 
-    /// Prints the line of the connection at a place, which is over, counts it by its cause, and logs it if a log
-    /// is asked for. Its link is closed.
+    /// Prints the line of the connection at a place, which is over, counts it by its cause, and logs
+    /// it if a log is asked for. Its link is closed.
     fn end<O: Sink, E: Sink>(
         &mut self,
         place: usize,

@@ -157,7 +157,7 @@ impl<T: Turns> Turns for GuardedExchange<'_, T> {
 
 /// Which connection has its quantum, when, and whose frames come over it.
 #[derive(Clone, Copy)]
-pub(crate) struct Quantum<'a> {
+pub(crate) struct PeerQuantum<'a> {
     /// The connection's place.
     pub(crate) place: usize,
     /// The time, in milliseconds.
@@ -169,7 +169,7 @@ pub(crate) struct Quantum<'a> {
 /// are counted.
 pub(crate) fn work_guarded<L: Link + Drop, T: Turns>(
     connections: &mut Connections<L>,
-    quantum: &Quantum<'_>,
+    quantum: &PeerQuantum<'_>,
     server: &mut Metered<T>,
     buffer: &mut [u8],
     turned_away: &mut u64,

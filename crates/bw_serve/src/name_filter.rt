@@ -1,7 +1,8 @@
 //! The filter of an exchange's bytes. No input or output.
 ghost use Rattle.std.specs.Prelude.{◌≡◌, ◌+◌, ◌≤◌, ◌++◌, ℕ, List, false, length, take, drop};
 ghost use Rattle.bw_model.specs.Bytes.{u32_at};
-ghost use Rattle.bw_serve.specs.Filters.{after_byte, after_bytes, allows, filtered, has_name, passed, starting};
+ghost use Rattle.bw_serve.specs.Filters.{after_byte, after_bytes, allows, filtered, has_name, passed};
+ghost use Rattle.bw_serve.specs.Filters.{starting};
 
 use arrayvec::ArrayVec;
 use bw_model::read_u32;

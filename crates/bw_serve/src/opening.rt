@@ -40,7 +40,8 @@ pub trait Opens {
 
     /// What a call of `open` for this folder, limit and choice of syncs may return, and the state
     /// after it.
-    ghost opens: { Self → List ℕ → ℕ → Bool → Result (OpenedServer Self.Server) StartRefusal → Self → Type 0 };
+    ghost opens: { Self → List ℕ → ℕ → Bool → Result (OpenedServer Self.Server) StartRefusal →
+        Self → Type 0 };
 
     /// A server over what is in the folder and its journals, with this limit for new takes; with
     /// `sync` each verdict is on the disk before it is answered. No other server is opened over the

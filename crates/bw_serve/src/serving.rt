@@ -95,12 +95,12 @@ pub fn run_observed<B: Reactor, T: Turns, V: RoundObserver<T>, O: Sink, E: Sink>
     faults: &mut E,
 ) -> Exit
     requires { T.committed (metered_server server.old) }
-    ensures runs { RunsEventLoop B.Reactor B.Link.Link (guarded_answers T.answers terms.now.allow.now) T.commits
-        O.Sink E.Sink terms.now.log terms.now.bounds result (metered_server server.old)
+    ensures runs { RunsEventLoop B.Reactor B.Link.Link (guarded_answers T.answers terms.now.allow.now)
+        T.commits O.Sink E.Sink terms.now.log terms.now.bounds result (metered_server server.old)
         (metered_server server.new) reactor.old reactor.new out.old out.new faults.old faults.new }
     // Nothing else happens to the observer.
-    ensures observed { ObservesRun B.Reactor B.Link.Link (guarded_answers T.answers terms.now.allow.now) T.commits
-        O.Sink E.Sink terms.now.log V.looks terms.now.bounds result (metered_server server.old)
+    ensures observed { ObservesRun B.Reactor B.Link.Link (guarded_answers T.answers terms.now.allow.now)
+        T.commits O.Sink E.Sink terms.now.log V.looks terms.now.bounds result (metered_server server.old)
         (metered_server server.new) reactor.old reactor.new out.old out.new faults.old faults.new observer.old
         observer.new }
 {

@@ -1,10 +1,18 @@
-use Rattle.std.proofs.Common.{refl, sym, [], ◌∷◌, Some, None}
+use Rattle.std.proofs.Common.{refl, rules, sym, ◌∙◌, [], ◌∷◌, Some, None}
 use Rattle.bw_connections.proofs.Standing.{not_some}
 use Rattle.bw_serve.proofs.Growing.{adds_still, counts_none, counts_on, stays_still, existed_still}
 use Rattle.bw_serve.proofs.Quanta.{place_served, silence_ends}
+use Rattle.bw_serve.proofs.Resting.{served_at_rest}
 use Rattle.bw_serve.proofs.Silence.{not_expired, silent_long, spoken_not_idle}
 use Rattle.bw_serve.specs.Guards.{guarded_answers}
 use Rattle.bw_serve.proofs.event_loop.EventLoop.serve_place.Goals as goal
+
+pub returns-then-is_at_rest : goal.returns-then-is_at_rest
+returns-then-is_at_rest g c =
+    served_at_rest g.L.Link (guarded_answers g.T.Turns.answers c.args.round.now.allow.now) g.O.Sink g.E.Sink
+    c.args.round.now.log c.args.place c.args.round.now.time c.args.round.now.idle c.args.self.now
+    c.args.server.now.server c.args.out.now c.args.faults.now (sym c.is_at_rest.ensures ∙ (search rules)) (search rules)
+    (search rules)
 
 pub returns-in-Some : goal.returns-in-Some
 returns-in-Some g c =

@@ -11,21 +11,21 @@ pub loop-peer-preserved : goal.loop-peer-preserved
 loop-peer-preserved g c = record {
   grows = elim c.match-accept.branch [
     | in-Ok w ↦ subst (λ m. Grows g.L.Link c.args.self.now m) (sym w.self-is)
-        (grows_then g.L.Link c.args.self.now c.loop-peer.self w.peer_slot.new.self c.loop-peer.invariant.grows
-        w.peer_slot.ensures.grows)
+        (grows_then g.L.Link c.args.self.now c.loop-peer.self w.put_peer.new.self c.loop-peer.invariant.grows
+        w.put_peer.ensures.grows)
     | in-Err-Gone w ↦ subst (λ m. Grows g.L.Link c.args.self.now m) (sym w.self-is) c.loop-peer.invariant.grows
   ];
   lets_in = elim c.match-accept.branch [
     | in-Ok w ↦ subst (λ m. LetsIn c.args.now c.args.self.now m) (sym w.self-is)
-        (lets_in_then c.args.now c.args.self.now c.loop-peer.self w.peer_slot.new.self c.loop-peer.invariant.lets_in
-        w.peer_slot.ensures.lets_in)
+        (lets_in_then c.args.now c.args.self.now c.loop-peer.self w.put_peer.new.self c.loop-peer.invariant.lets_in
+        w.put_peer.ensures.lets_in)
     | in-Err-Gone w ↦ subst (λ m. LetsIn c.args.now c.args.self.now m) (sym w.self-is) c.loop-peer.invariant.lets_in
   ];
   welcomes = elim c.match-accept.branch [
     | in-Ok w ↦ subst (λ m. Welcomes g.B.Reactor c.args.now c.args.reactor.now c.accept.new.self c.args.self.now m)
         (sym w.self-is) (welcomes_more g.B.Reactor c.args.now c.in-Some.place w.in-Ok.accepted.link c.args.reactor.now
-        c.loop-peer.reactor c.accept.new.self c.args.self.now c.loop-peer.self w.peer_slot.new.self
-        c.loop-peer.invariant.welcomes w.in-Ok.ensures.admitted w.peer_slot.ensures.admits)
+        c.loop-peer.reactor c.accept.new.self c.args.self.now c.loop-peer.self w.put_peer.new.self
+        c.loop-peer.invariant.welcomes w.in-Ok.ensures.admitted w.put_peer.ensures.admits)
     | in-Err-Gone w ↦ subst (λ m. Welcomes g.B.Reactor c.args.now c.args.reactor.now c.accept.new.self c.args.self.now m)
         (sym w.self-is) (welcomes_on g.B.Reactor c.args.now c.args.reactor.now c.loop-peer.reactor c.accept.new.self
         c.args.self.now c.loop-peer.self c.loop-peer.invariant.welcomes w.in-Err-Gone.ensures.admitted)

@@ -2,7 +2,7 @@ use Rattle.std.proofs.Common.{refl, subst, sym}
 use Rattle.bw_serve.proofs.Counting.{counts_in_slots}
 use Rattle.bw_serve.proofs.Admitting.{begins_or_not}
 use Rattle.bw_serve.proofs.Rounds.{in_slots}
-use Rattle.bw_serve.proofs.event_loop.EventLoop.peer_slot.Goals as goal
+use Rattle.bw_serve.proofs.event_loop.EventLoop.put_peer.Goals as goal
 
 pub returns-clause-grows : goal.returns-clause-grows
 returns-clause-grows g c =
