@@ -12,6 +12,10 @@ use std::os::fd::AsRawFd;
 /// After how many bytes the system is asked to begin to write them to the disk.
 const WRITE_BACK: u64 = 2 << 20;
 
+/// In how many steps of these bytes files differ: recorders that began together would all wait while
+/// as many files as they are were written back at once.
+const WRITE_BACK_STEPS: u64 = 32;
+
 /// What a file is called whose path there was no memory for.
 const SOME_FILE: &str = "a file";
 
@@ -111,6 +115,7 @@ impl<'a> NotedFiles<'a> {
             unsynced: Cell::new(is_new),
             position: Cell::new(0),
             written_back: Cell::new(0),
+            due: Cell::new(first_write_back(path)),
         })
     }
 
@@ -122,6 +127,16 @@ impl<'a> NotedFiles<'a> {
             }
         }
     }
+}
+
+/// After how many bytes of the file at a path the system is first asked to begin to write them: for
+/// names that are counted up, at as many places as there are steps.
+fn first_write_back(path: &str) -> u64 {
+    let mut sum = 0u64;
+    for byte in path.as_bytes() {
+        sum = sum.wrapping_add(u64::from(*byte));
+    }
+    WRITE_BACK / WRITE_BACK_STEPS * (sum % WRITE_BACK_STEPS + 1)
 }
 
 impl Alloc for NotedFiles<'_> {
@@ -194,6 +209,8 @@ pub struct NotedFile<'a, F> {
     position: Cell<u64>,
     /// Up to where the system was asked to begin to write to the disk.
     written_back: Cell<u64>,
+    /// From where on it is asked again.
+    due: Cell<u64>,
 }
 
 impl<F> NotedFile<'_, F> {
@@ -231,14 +248,13 @@ impl<F: AsRawFd> NotedFile<'_, F> {
     fn write_back(&self, count: usize) {
         let position = self.position.get().saturating_add(count as u64);
         self.position.set(position);
-        let begin = self.written_back.get();
-        let Some(len) = position.checked_sub(begin) else {
-            return;
-        };
-        if len < WRITE_BACK {
+        if position < self.due.get() {
             return;
         }
+        let begin = self.written_back.get();
         self.written_back.set(position);
+        self.due.set(position.saturating_add(WRITE_BACK));
+        let len = position.saturating_sub(begin);
         if let (Ok(begin), Ok(len)) = (i64::try_from(begin), i64::try_from(len)) {
             // It is advice: if it isn't taken, the sync takes longer.
             let _advised = libc::posix_fadvise(
