@@ -6,11 +6,12 @@
  *     client PORT NAME BLOCKS SIZE [RECORDERS [RATE]]
  *
  * The samples are 16 bits wide, so that SIZE is even. With RECORDERS, at most 256, the takes are NAME-0 and so on, and
- * every connection is made before the first byte is sent. With RATE each recorder has so many bytes a second, as a live
- * one does: its messages come at equal times, those of several recorders between each other's. Prints how many seconds
- * it took from the first byte to the last verdict, and how fast the slowest recorder was, where the mean of all is 1;
- * with RATE also how many milliseconds a verdict took from its message: half of them, 99 of 100, and all took no more.
- * Where a verdict isn't Stored or a connection breaks, it prints a line and has status 1.
+ * every connection is made before the first byte is sent. With RATE each recorder has so many bytes a second, as a
+ * live one does: its messages come at equal times. Recorders begin one after another within the first second, so that
+ * they don't all end at once either. Prints how many seconds it took from the first byte to the last verdict, and how
+ * fast the slowest recorder was, where the mean of all is 1; with RATE also how many milliseconds a verdict took from
+ * its message: half of them, 99 of 100, and all took no more. Where a verdict isn't Stored or a connection breaks, it
+ * prints a line and has status 1.
  */
 #include <arpa/inet.h>
 #include <errno.h>
@@ -227,7 +228,7 @@ static double send_takes(struct recorder *recorders, size_t count) {
     static struct pollfd ready[MOST_RECORDERS];
     double start = seconds();
     for (size_t i = 0; i < count; i++) {
-        recorders[i].first = start + recorders[i].interval * (double)i / (double)count;
+        recorders[i].first = start + (recorders[i].interval > 0 ? (double)i / (double)count : 0);
     }
     for (size_t left = count; left > 0;) {
         double now = seconds();
