@@ -2,5 +2,5 @@
 
 /// The toolchain, and the SHA-256 digest of the sources, a line each.
 pub const BUILD: &str = "toolchain: rattle-kit-13f logic dac8208d650f15bf
-sources: 0424bf434c996d77407657b958fd11c471a600a6b42958984a8acc3338a94986
+sources: f80e0233e932861152ee287455eaa82a6ffb1ca98163b9ebc4caf515b4e1abbd
 ";
