@@ -9,7 +9,7 @@ ghost use Rattle.bw_send_file.specs.FileSendings.{FeedsRecording, IsFileSent};
 ghost use Rattle.bw_send_file.specs.PlanFeeds.{feed_plan, feed_reader, feed_stamped, feed_stamp};
 
 use crate::feed::PlanFeed;
-use crate::job::{Errand, FileJob};
+use crate::job::{Errand, FileJob, RestErrand};
 use crate::sending::send_feed;
 use crate::way::Way;
 use bw_console::Exit;
@@ -62,7 +62,8 @@ pub fn send_file<F: RecordingFiles, X: SendingSides, V: Observer>(
     match open_feed(way.alloc, files, errand.path, &options) {
         Ok(mut opened) => {
             warn(opened.warnings.as_slice(), faults);
-            send_feed(&errand, &mut opened.feed, way, observer, out, faults)
+            let rest = RestErrand { errand, count: 0 };
+            send_feed(&rest, &mut opened.feed, way, observer, out, faults)
         }
         Err(fault) => report_open_fault(way.alloc, "send", errand.path, &fault, faults),
     }

@@ -8,7 +8,7 @@ ghost use Rattle.bw_stream.specs.Readers.{Of};
 
 use crate::PcmRequests;
 use crate::growing_header::{GrowingHeader, read_header};
-use crate::job::{Errand, GrowingJob};
+use crate::job::{Errand, GrowingJob, RestErrand};
 use crate::marked_feed::MarkedFeed;
 use crate::pcm_feed::PcmFeed;
 use crate::sending::send_feed;
@@ -66,7 +66,8 @@ pub fn follow_recording<F: GrowingFiles + Marking, X: SendingSides, V: Observer>
     match open_growing(way.alloc, files, errand.path, job.until, &options) {
         Ok(mut opened) => {
             warn(opened.warnings.as_slice(), faults);
-            send_feed(&errand, &mut opened.feed, way, observer, out, faults)
+            let rest = RestErrand { errand, count: 0 };
+            send_feed(&rest, &mut opened.feed, way, observer, out, faults)
         }
         Err(fault) => report_open_fault(way.alloc, "send", errand.path, &fault, faults),
     }

@@ -25,7 +25,7 @@ pub struct Errand<'a> {
 pub struct RestErrand<'a> {
     /// The recorder, and the file's path.
     pub errand: Errand<'a>,
-    /// How many requests are passed over.
+    /// How many requests are passed over; 0 of a new take.
     pub count: u32,
 }
 

@@ -4,7 +4,7 @@ ghost use Rattle.bw_recorder.specs.Openings.{is_system_well};
 ghost use Rattle.bw_recorder.specs.Packs.{HasPacked, Packing};
 ghost use Rattle.bw_send_file.specs.PcmSendings.{SendsOpened};
 
-use crate::{Errand, FeedFault, Way, send_feed};
+use crate::{Errand, FeedFault, RestErrand, Way, send_feed};
 use bw_console::Exit;
 use bw_recorder::{OpenFault, report_open_fault};
 use bw_upload::{Feed, Observer, SendingSides};
@@ -33,5 +33,9 @@ pub(crate) fn send_opened<F: Feed<Fault = FeedFault> + Drop, X: SendingSides, V:
         Ok(feed) => feed,
         Err(fault) => return report_open_fault(way.alloc, "send", errand.path, &fault, faults),
     };
-    send_feed(errand, &mut feed, way, observer, out, faults)
+    let rest = RestErrand {
+        errand: *errand,
+        count: 0,
+    };
+    send_feed(&rest, &mut feed, way, observer, out, faults)
 }

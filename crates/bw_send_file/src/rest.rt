@@ -11,7 +11,7 @@ ghost use Rattle.bw_send_file.specs.SentOn.{SendsRest};
 use crate::resumed_job::Job;
 use crate::skipping::pass_over;
 use crate::{
-    Errand, FeedFault, PlanFeed, RestErrand, Way, open_feed, report_file_fault, send_feed_after,
+    Errand, FeedFault, PlanFeed, RestErrand, Way, open_feed, report_file_fault, send_feed,
 };
 use bw_console::Exit;
 use bw_plan::Options;
@@ -73,7 +73,7 @@ pub(crate) fn send_rest<F: RecordingFiles, X: SendingSides, V: Observer>(
         count: rest.count,
     };
     match pass_over(feed, &rest.stamp, rest.count) {
-        Ok(true) => send_feed_after(&left, feed, way, observer, out, faults),
+        Ok(true) => send_feed(&left, feed, way, observer, out, faults),
         Ok(false) => report_file_fault(way.alloc, path, &FeedFault::Changed, faults),
         Err(fault) => report_file_fault(way.alloc, path, &fault, faults),
     }

@@ -1,25 +1,29 @@
 //! The requests of a feed are sent, and its end is reported.
-ghost use Rattle.std.specs.Prelude.{◌≡◌, IfOk};
+ghost use Rattle.std.specs.Prelude.{◌≡◌, ◌+◌, ◌≤◌};
 ghost use Rattle.bw_console.specs.Outcomes.{HasWritten, Outcome as Did};
+ghost use Rattle.bw_model.specs.Wire.{Second, last_number};
 ghost use Rattle.bw_model.specs.World.{Sender as Defined};
-ghost use Rattle.bw_sender.specs.Senders.{IsSender};
-ghost use Rattle.bw_send_file.specs.Sendings.{IsFeedSent, IsFeedSentAfter};
+ghost use Rattle.bw_sender.specs.Senders.{HasStored};
+ghost use Rattle.bw_send_file.specs.Sendings.{IsFeedSentAfter};
 
 use crate::ending::report_end;
 use crate::fault::FeedFault;
-use crate::job::Errand;
+use crate::job::{Errand, RestErrand};
 use crate::settling::{feed_fault, settle};
 use crate::way::Way;
 use bw_console::print::give_up;
 use bw_console::{Exit, Fault};
 use bw_sender::Sender;
 use bw_upload::{Feed, Observer, PatientSender, SendingSides, Uploaded, upload};
-use std::alloc::AllocError;
 
-/// Sends what a feed gives of an errand's file, and prints how many requests are
-/// settled and stored, and which are refused. Unless all are stored or one is refused, a line on
-/// `faults` begins with the cause: Conflict, TooFar, NotOffered, Fruitless, Limit, Changed,
-/// Unsendable, or what the file lacks. A failure to write it is ignored.
+/// Sends what a feed gives of an errand's file after the first `count` requests of the take, and
+/// prints how many requests are settled and stored, and which are refused. Unless all are stored or
+/// one is refused, a line on `faults` begins with the cause: Conflict, TooFar, NotOffered, Fruitless,
+/// Limit, Changed, Unsendable, or what the file lacks. A failure to write it is ignored.
+///
+/// The premise is that the first `count` requests were sent before, that all of them are stored, and
+/// that none of them is a CLOSE: the contract speaks of every sender for which that is so. Of a new
+/// take there are none.
 ///
 /// Where the feed fails, the requests that it gave before are sent on first, until all of them are
 /// stored, one is refused, or as many links in a row settle nothing as `fruitless` allows. After a
@@ -34,76 +38,43 @@ use std::alloc::AllocError;
 /// - When memory is refused, and when a link can't be made.
 /// - That the observer gets each report.
 pub fn send_feed<F: Feed<Fault = FeedFault>, X: SendingSides, V: Observer>(
-    errand: &Errand<'_>,
+    rest: &RestErrand<'_>,
     feed: &mut F,
     way: Way<'_, X>,
     observer: &mut V,
     out: &mut X::Output,
     faults: &mut X::Diagnostics,
 ) -> Exit
-    ensures { (did : Did) × (did.exit ≡ result)
-        × IsFeedSent F.Feed X.Pause.Pause X.Dial.Dial X.Dial.Reader.Source X.Dial.Writer.Sink
-        (record {
-          name = errand.now.recorder.name.now;
-          path = errand.now.path.now;
-          most = errand.now.recorder.fruitless;
-        })
-        feed.old feed.new (record { pause = way.entry.pause.now; dial = way.entry.dial.now })
-        (record { pause = way.exit.0.now; dial = way.exit.1.0.now }) did
-        × HasWritten X.Output.Sink X.Diagnostics.Sink did out.old out.new faults.old faults.new }
-{
-    let sender = Sender::new(way.alloc, errand.recorder.name.copy());
-    let begun = Begun {
-        sender,
-        errand: *errand,
-    };
-    send_by(begun, feed, way, observer, out, faults)
-}
-
-/// A file's sender, or that memory was refused for it.
-#[derive(Drop)]
-pub(crate) struct Begun<'a> {
-    pub(crate) sender: Result<Sender, AllocError>,
-    pub(crate) errand: Errand<'a>,
-}
-
-/// Sends what a feed gives of the file at a path as `send_feed` does, by this sender; or reports that
-/// memory was refused for it.
-pub(crate) fn send_by<F: Feed<Fault = FeedFault>, X: SendingSides, V: Observer>(
-    begun: Begun<'_>,
-    feed: &mut F,
-    way: Way<'_, X>,
-    observer: &mut V,
-    out: &mut X::Output,
-    faults: &mut X::Diagnostics,
-) -> Exit
-    ensures { (s : Defined) → IfOk begun.entry.sender (IsSender s) → (did : Did) × (did.exit ≡ result)
+    requires { rest.now.count ≤ last_number Second + 1 }
+    // With the status 0 the first requests and all of the feed are stored.
+    ensures { (s : Defined) → HasStored rest.now.errand.recorder.name.now rest.now.count s →
+        (did : Did) × (did.exit ≡ result)
         × IsFeedSentAfter F.Feed X.Pause.Pause X.Dial.Dial X.Dial.Reader.Source X.Dial.Writer.Sink s
         (record {
-          name = begun.entry.errand.recorder.name.now;
-          path = begun.entry.errand.path.now;
-          most = begun.entry.errand.recorder.fruitless;
+          name = rest.now.errand.recorder.name.now;
+          path = rest.now.errand.path.now;
+          most = rest.now.errand.recorder.fruitless;
         })
         feed.old feed.new (record { pause = way.entry.pause.now; dial = way.entry.dial.now })
         (record { pause = way.exit.0.now; dial = way.exit.1.0.now }) did
         × HasWritten X.Output.Sink X.Diagnostics.Sink did out.old out.new faults.old faults.new }
 {
-    let Begun { sender, errand } = begun;
-    let Ok(sender) = sender else {
+    let Errand { recorder, path } = rest.errand;
+    let Ok(sender) = Sender::resume(way.alloc, recorder.name.copy(), rest.count) else {
         return give_up(faults, &Fault::Memory);
     };
     let Way { pause, dial, alloc } = way;
-    let fruitless = errand.recorder.fruitless;
+    let fruitless = recorder.fruitless;
     let started = PatientSender { sender, fruitless };
     let Uploaded { sender, outcome } = upload(alloc, started, feed, pause, dial, observer);
     let fault = match feed_fault(outcome) {
         Ok(fault) => fault,
         Err(outcome) => {
             let uploaded = Uploaded { sender, outcome };
-            return report_end(alloc, errand.path, &uploaded, out, faults);
+            return report_end(alloc, path, &uploaded, out, faults);
         }
     };
     let stopped = PatientSender { sender, fruitless };
     let uploaded = settle(alloc, stopped, fault, pause, dial, observer);
-    report_end(alloc, errand.path, &uploaded, out, faults)
+    report_end(alloc, path, &uploaded, out, faults)
 }

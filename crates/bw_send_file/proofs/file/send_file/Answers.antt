@@ -3,7 +3,8 @@ use Rattle.std.specs.Prelude.{codes}
 use Rattle.bw_recorder.specs.Packs.{IsReportedText}
 use Rattle.bw_recorder.proofs.PackSteps.{at_once, not_opened}
 use Rattle.bw_send_file.proofs.Reported.{refuses, reports_unopened}
-use Rattle.bw_send_file.proofs.SentSo.{sent_so}
+use Rattle.bw_sender.specs.Senders.{new_sender}
+use Rattle.bw_send_file.proofs.SentSo.{new_has_none, sent_so}
 use Rattle.bw_send_file.proofs.file.send_file.Goals as goal
 
 pub returns-in-Err : goal.returns-in-Err
@@ -14,7 +15,8 @@ returns-in-Err g c =
 pub returns-in-Ok-open_feed : goal.returns-in-Ok-open_feed
 returns-in-Ok-open_feed g c =
     let w = c.warn.ensures in
-    let s = c.send_feed.ensures in (
+    let name = c.args.job.now.recorder.name.now in
+    let s = c.send_feed.ensures (new_sender name) (new_has_none name) in (
       sent_so w.0 s.0 c.send_feed.result,
       refl,
       inr (

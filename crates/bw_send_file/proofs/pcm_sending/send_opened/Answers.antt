@@ -1,12 +1,14 @@
 use Rattle.std.proofs.Common.{refl, sym}
 use Rattle.bw_console.specs.Prints.{Nothing}
 use Rattle.bw_recorder.proofs.PackSteps.{unopened}
-use Rattle.bw_send_file.proofs.SentSo.{sent_so}
+use Rattle.bw_sender.specs.Senders.{new_sender}
+use Rattle.bw_send_file.proofs.SentSo.{new_has_none, sent_so}
 use Rattle.bw_send_file.proofs.pcm_sending.send_opened.Goals as goal
 
 pub returns : goal.returns
 returns g c =
-    let s = c.send_feed.ensures in (
+    let name = c.args.errand.now.recorder.name.now in
+    let s = c.send_feed.ensures (new_sender name) (new_has_none name) in (
       sent_so Nothing s.0 c.send_feed.result,
       refl,
       rw c.in-Ok.is refl,

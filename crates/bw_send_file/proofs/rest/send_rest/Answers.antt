@@ -20,7 +20,7 @@ returns-in-Ok-true-clause-stores g c = λ done b at.
       recording = r.recording;
       is = r.is;
       sends = λ s before.
-          let sent = c.send_feed_after.ensures s before.has in
+          let sent = c.send_feed.ensures s before.has in
           rest_sent _ _ _ _ _ _ c.args.rest.now.count
           (plan (block_frames c.args.rest.now.options.now r.recording.outline.format) r.recording) s _ _ _ _ sent.0
           (c.in-Ok-true.ensures.known c.in-Ok-true.field-0-test _ r.gives) before sent.2 (sent.1 ∙ done);
@@ -30,9 +30,9 @@ pub returns-in-Ok-true-clause-did : goal.returns-in-Ok-true-clause-did
 returns-in-Ok-true-clause-did g c =
     let w = c.warn.ensures in
     let p = passed _ _ _ _ _ _ _ c.in-Ok-true.field-0-test c.in-Ok-true.ensures.ok in
-    let s = c.send_feed_after.ensures (stored_sender c.args.rest.now.job.recorder.name.now p.0)
+    let s = c.send_feed.ensures (stored_sender c.args.rest.now.job.recorder.name.now p.0)
     (record { name_is = refl; offered = p.1.many; stored = refl; unclosed = p.1.unclosed }) in (
-      sent_so w.0 s.0 c.send_feed_after.result,
+      sent_so w.0 s.0 c.send_feed.result,
       refl,
       inr (record {
         begun = c.in-Ok.opened.feed;
@@ -44,7 +44,7 @@ returns-in-Ok-true-clause-did g c =
           first = p.0;
           at = c.pass_over.new.feed;
           passes = p.1;
-          ended = c.send_feed_after.new.feed;
+          ended = c.send_feed.new.feed;
           sent = s.0;
           sends = s.2;
           prints = refl;
