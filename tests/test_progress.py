@@ -43,11 +43,13 @@ def slow_recording(blocks, more=0):
 class Sender:
     """A sender on a terminal of so many rows and columns, which is read all the time."""
 
-    def __init__(self, *words, rows=24, columns=100, given=subprocess.DEVNULL, on_terminal=("out", "faults")):
+    def __init__(
+        self, *words, rows=24, columns=100, given=subprocess.DEVNULL, on_terminal=("out", "faults"), observer=None
+    ):
         self.terminal, end = open_terminal(rows, columns)
         out = end if "out" in on_terminal else PIPE
         self.begun = time.monotonic()
-        self.process = start(*words, stdin=given, stdout=out, stderr=end)
+        self.process = start(*words, stdin=given, stdout=out, stderr=end, observer=observer)
         os.close(end)
         self.glass = Glass(rows, columns)
         self.text = ""
@@ -303,6 +305,38 @@ def case_state(folder):
         same_parts("a state, again", parts, "kept", frames, first_done=frames // RATE // 5)
         speeds = [float(match["speed"]) for _, match in parts]
         TALLY.holds("a state, again: what was sent before isn't counted", max(speeds) <= 1.5, speeds)
+    state.write_bytes(b"".join(state.read_bytes().splitlines(keepends=True)[:2]))
+    sender = Sender(*words, "--fruitless", "3")
+    TALLY.same("a state, no server", sender.end(), (3, FRUITLESS.splitlines()))
+    parts = parts_of("a state, no server", sender)
+    TALLY.same("a state, no server: it isn't asked yet", {match["percent"] for _, match in parts}, {"0"})
+    TALLY.holds("a state, no server: the link", all(match["down"] for _, match in parts), parts[-1][1].group())
+
+
+class Opens:
+    """Counts how often a program that is traced opens a file."""
+
+    def __init__(self, path):
+        self.path, self.count = str(path), 0
+
+    def before(self, call):
+        pass
+
+    def after(self, call):
+        if call.number in (2, 257):  # open, openat
+            place = call.words[0] if call.number == 2 else call.words[1]
+            self.count += call.result >= 0 and call.text_at(place) == self.path
+
+
+def case_opens(folder):
+    """For its line a sender doesn't open its file: once for the report, the format, the history and the samples."""
+    with serving(folder) as server:
+        path = written(folder, slow_recording(2)[1])
+        for name, count, options in (("once", 4, ()), ("kept", 8, ("--state", str(folder / "state")))):
+            opens = Opens(path)
+            sender = Sender(*words_of(server.port, name, path, *options), observer=opens)
+            TALLY.same(f"{name}: the end", sender.end(), (0, settled(4).splitlines()))
+            TALLY.same(f"{name}: opens", opens.count, count)
 
 
 # Samples without a header

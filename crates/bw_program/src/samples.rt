@@ -16,8 +16,8 @@ use bw_console::{Exit, Fault};
 use bw_live::{Filled, SpoolWish, filled_of_file, filled_settings, hold_begun};
 use bw_plan::Pcm;
 use bw_ports::{PacedNetwork, Purpose, SpoolKeeping, StateKeeping, keep_unless_done};
-use bw_progress::{Extent, SamplesSent, UploadWatch};
-use bw_recorder::RecordingFile;
+use bw_progress::{SamplesSent, UploadWatch};
+use bw_recorder::{Extent, RecordingFile};
 use bw_send_file::{
     FollowedJob, GrowingJob, PcmFile, PcmJob, Recorder, Way, follow_recording, follow_samples,
     send_samples,

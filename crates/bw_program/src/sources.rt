@@ -6,7 +6,7 @@ use crate::behavior::Behavior;
 use crate::outside::{Environment, Outside, ProgressObservers};
 use crate::receipts::send_with_receipt;
 use crate::samples::send_pcm_watched;
-use crate::uploads::send_file_watched;
+use crate::uploads::send_file_as;
 use bw_args::{FileSender, PcmSender};
 use bw_console::Exit;
 use bw_ports::{FileKinds, refuse_kind};
@@ -46,9 +46,9 @@ pub(crate) fn send_file_there<X: Environment>(
         return refuse_kind(alloc, path, kind, false, &mut outside.faults);
     }
     if sender.log {
-        return send_file_watched(alloc, sender, outside, &mut observers.log);
+        return send_file_as(alloc, sender, outside, &mut observers.log);
     }
-    send_file_watched(alloc, sender, outside, &mut observers.watch)
+    send_file_as(alloc, sender, outside, &mut observers.watch)
 }
 
 /// Sends the headerless samples that the command line names, if a file is there. Their progress is

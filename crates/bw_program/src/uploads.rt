@@ -11,29 +11,11 @@ use bw_console::{Exit, Fault};
 use bw_ports::{PacedNetwork, RecordingFiles, StateKeeping};
 use bw_progress::UploadWatch;
 use bw_send_file::{FileJob, Job, KeptFiles, Recorder, StatePlace, Way, send_file, send_file_on};
-use bw_upload::Observer;
 use std::alloc::Global;
 
-/// Sends the recording that the command line names, with a state if that names one too, and reports
-/// each change of the link to the observer.
-fn send_file_as<X: Environment, G: Observer>(
-    alloc: Global,
-    sender: &FileSender,
-    outside: &mut Outside<X>,
-    observer: &mut G,
-) -> Exit
-    ensures { ⟦<Outside<X> as Behavior>⟧.does (ByUpload (AnyRecording sender.now)) result
-        outside.old outside.new }
-{
-    match &sender.state {
-        None => send_new(alloc, sender, outside, observer),
-        Some(state) => send_kept(alloc, sender, state.as_str(), outside, observer),
-    }
-}
-
-/// Sends the recording that the command line names as `send_file_as` does, and has its progress
-/// shown.
-pub(crate) fn send_file_watched<X: Environment, V: UploadWatch>(
+/// Sends the recording that the command line names, with a state if that names one too, and has its
+/// progress shown by the watch.
+pub(crate) fn send_file_as<X: Environment, V: UploadWatch>(
     alloc: Global,
     sender: &FileSender,
     outside: &mut Outside<X>,
@@ -42,19 +24,19 @@ pub(crate) fn send_file_watched<X: Environment, V: UploadWatch>(
     ensures { ⟦<Outside<X> as Behavior>⟧.does (ByUpload (AnyRecording sender.now)) result
         outside.old outside.new }
 {
-    watch.begin_file(alloc, &sender.name, &recording_of(&sender.source));
-    let exit = send_file_as(alloc, sender, outside, watch);
-    watch.end();
-    exit
+    match &sender.state {
+        None => send_new(alloc, sender, outside, watch),
+        Some(state) => send_kept(alloc, sender, state.as_str(), outside, watch),
+    }
 }
 
 /// Sends the recording with the state at a path.
-fn send_kept<X: Environment, G: Observer>(
+fn send_kept<X: Environment, V: UploadWatch>(
     alloc: Global,
     sender: &FileSender,
     state: &str,
     outside: &mut Outside<X>,
-    observer: &mut G,
+    watch: &mut V,
 ) -> Exit
     ensures { ⟦<Outside<X> as Behavior>⟧.does (ByUpload (KeptRecording state.now sender.now)) result
         outside.old outside.new }
@@ -89,15 +71,17 @@ fn send_kept<X: Environment, G: Observer>(
         dial: &mut links,
         alloc,
     };
-    send_file_on(&job, kept, way, observer, out, faults)
+    let exit = send_file_on(&job, kept, way, watch, out, faults);
+    watch.end();
+    exit
 }
 
 /// Sends the recording without a state.
-fn send_new<X: Environment, G: Observer>(
+fn send_new<X: Environment, V: UploadWatch>(
     alloc: Global,
     sender: &FileSender,
     outside: &mut Outside<X>,
-    observer: &mut G,
+    watch: &mut V,
 ) -> Exit
     ensures { ⟦<Outside<X> as Behavior>⟧.does (ByUpload (NewRecording sender.now)) result
         outside.old outside.new }
@@ -120,7 +104,9 @@ fn send_new<X: Environment, G: Observer>(
         dial: &mut dial,
         alloc,
     };
-    send_file(&job, files, way, observer, out, faults)
+    let exit = send_file(&job, files, way, watch, out, faults);
+    watch.end();
+    exit
 }
 
 /// The recorder that the command line asks for.

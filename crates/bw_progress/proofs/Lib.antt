@@ -1,3 +1,2 @@
 pub mod CountedFrames
 pub mod Pieces
-pub mod Measured

@@ -4,8 +4,8 @@ use Rattle.bw_model.specs.Take.{Request, Block, block_align}
 use Rattle.bw_plan.specs.PlanLaws.{IsClean}
 use Rattle.bw_plan.specs.Plans.{plan}
 use Rattle.bw_plan.specs.Recordings.{Options, Recording, block_frames}
-use Rattle.bw_progress.specs.Measures.{done_frames, measure_of}
-use Rattle.bw_progress.specs.declared.measure.Extent.TheVariants.{Whole}
+use Rattle.bw_recorder.specs.Measures.{done_frames, measure_of}
+use Rattle.bw_recorder.specs.declared.measure.Extent.TheVariants.{Whole}
 
 -- how many frames of so many bytes a request has
 abbrev pub request_frames : ℕ → Request → ℕ

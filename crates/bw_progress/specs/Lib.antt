@@ -1,11 +1,9 @@
-pub mod Measures
 pub mod Speeds
 pub mod Progresses
 pub mod Lines
 pub mod Paces
 pub mod Displays
 pub mod Pauses
-pub mod Files
 pub mod CountedFrames
 pub mod Outages
 pub mod Repeats

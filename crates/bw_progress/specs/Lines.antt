@@ -1,7 +1,7 @@
 -- The line that shows how far an upload is.
 use Rattle.std.specs.Prelude.{ℕ, ◌+◌, ◌-◌, ◌*◌, ◌/◌, ◌%◌, ◌==◌, max, min, List, [], ◌∷◌, ◌++◌}
 use Rattle.std.specs.Prelude.{Option, Some, None, codes, decimal, if◌then◌else◌}
-use Rattle.bw_progress.specs.Measures.{done_frames}
+use Rattle.bw_recorder.specs.Measures.{done_frames}
 use Rattle.bw_progress.specs.Progresses.{speed_at}
 use Rattle.bw_progress.specs.declared.batch.BatchPart.{BatchPart}
 use Rattle.bw_progress.specs.declared.progress.LinkState.{LinkState}

@@ -4,10 +4,10 @@ use Rattle.bw_model.specs.World.{Sender, settled}
 use Rattle.bw_upload.specs.declared.observer.LinkEnd.TheVariants as ends
 use Rattle.bw_upload.specs.declared.observer.LinkEvent.{LinkEvent}
 use Rattle.bw_upload.specs.declared.observer.LinkEvent.TheVariants as events
-use Rattle.bw_progress.specs.Measures.{done_bytes}
+use Rattle.bw_recorder.specs.Measures.{done_bytes}
 use Rattle.bw_progress.specs.Speeds.{bytes_a_second, speed_noted}
 use Rattle.bw_progress.specs.declared.batch.BatchPart.{BatchPart}
-use Rattle.bw_progress.specs.declared.measure.TakeMeasure.{TakeMeasure}
+use Rattle.bw_recorder.specs.declared.measure.TakeMeasure.{TakeMeasure}
 use Rattle.bw_progress.specs.declared.progress.LinkState.{LinkState}
 use Rattle.bw_progress.specs.declared.progress.LinkState.TheVariants.{Up, Down}
 use Rattle.bw_progress.specs.declared.progress.UploadProgress.{UploadProgress}

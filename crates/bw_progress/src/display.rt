@@ -7,12 +7,12 @@ ghost use Rattle.bw_progress.specs.Displays.{awaited_if};
 ghost use Rattle.bw_progress.specs.Progresses.{begun_progress, counted_at, followed};
 
 use crate::batch::BatchPart;
-use crate::measure::TakeMeasure;
 use crate::pace::LinePace;
 use crate::progress::UploadProgress;
 use crate::screen::Screen;
 use bw_model::Name;
 use bw_ports::Stopwatch;
+use bw_recorder::TakeMeasure;
 use bw_sender::Sender;
 use bw_upload::LinkEvent;
 use std::alloc::Global;

@@ -9,9 +9,9 @@ ghost use Rattle.bw_progress.specs.Progresses.{speed_after};
 
 use crate::batch::BatchPart;
 use crate::line::line_of;
-use crate::measure::TakeMeasure;
 use crate::speed::{Mark, Speed};
 use bw_model::Name;
+use bw_recorder::TakeMeasure;
 use bw_sender::Sender;
 use bw_upload::{LinkEnd, LinkEvent};
 use std::alloc::{AllocError, Global};

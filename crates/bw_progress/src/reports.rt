@@ -6,7 +6,7 @@ use bw_console::CauseCell;
 use bw_console::print::print_diagnostic;
 use bw_model::Name;
 use bw_ports::{ProgressReport, Watch};
-use bw_recorder::RecordingFile;
+use bw_recorder::{RecordingWatch, TakeMeasure};
 use bw_sender::Sender;
 use bw_stream::Sink;
 use bw_upload::{LinkEvent, Observer};
@@ -60,13 +60,15 @@ impl<V: Watch, E: Sink> Watch for OutageReports<'_, V, E> {
     }
 }
 
+impl<V: RecordingWatch, E> RecordingWatch for OutageReports<'_, V, E> {
+    fn begin_file(&mut self, name: &Name, measure: TakeMeasure) {
+        self.watch.begin_file(name, measure);
+    }
+}
+
 impl<V: UploadWatch, E: Sink> UploadWatch for OutageReports<'_, V, E> {
     fn part(&mut self, number: u32, count: u32) {
         self.watch.part(number, count);
-    }
-
-    fn begin_file(&mut self, alloc: Global, name: &Name, file: &RecordingFile<'_>) {
-        self.watch.begin_file(alloc, name, file);
     }
 
     fn begin_samples(&mut self, alloc: Global, name: &Name, samples: &SamplesSent<'_>) {

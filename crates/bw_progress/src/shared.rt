@@ -1,11 +1,11 @@
 //! The line of an upload, shared by those who follow the upload, wait, or write beside it.
 use crate::batch::BatchPart;
 use crate::display::ProgressDisplay;
-use crate::measure::TakeMeasure;
 use crate::pace::LinePace;
 use crate::screen::{ProgressLine, Screen};
 use bw_model::Name;
 use bw_ports::Stopwatch;
+use bw_recorder::TakeMeasure;
 use bw_sender::Sender;
 use bw_upload::LinkEvent;
 use std::alloc::Global;

@@ -1,9 +1,8 @@
 //! Watchers of senders.
-use crate::measure::Extent;
 use bw_model::Name;
 use bw_plan::Pcm;
 use bw_ports::{ProgressReport, Watch};
-use bw_recorder::RecordingFile;
+use bw_recorder::{Extent, RecordingFile, RecordingWatch, TakeMeasure};
 use bw_sender::Sender;
 use bw_upload::{LinkEvent, Observer};
 use std::alloc::Global;
@@ -21,19 +20,13 @@ pub struct SamplesSent<'a> {
 
 /// Observes uploads, and learns first what is sent. No clause says what it shows; it changes nothing
 /// of what is sent.
-pub trait UploadWatch: Observer {
+pub trait UploadWatch: Observer + RecordingWatch {
     /// The recording whose upload begins next is the `number`-th of `count` that are sent one after
     /// another, from 1; with a `count` of 0 it is sent alone, as where this isn't called.
     ///
     /// # Not specified
     /// What it does.
     fn part(&mut self, number: u32, count: u32);
-
-    /// The recording in a file is sent under this name.
-    ///
-    /// # Not specified
-    /// What it does.
-    fn begin_file(&mut self, alloc: Global, name: &Name, file: &RecordingFile<'_>);
 
     /// The headerless samples in a file are sent under this name, which may still be written.
     ///
@@ -73,13 +66,15 @@ impl<R, U: Observer> Observer for SendWatch<R, U> {
     }
 }
 
+impl<R, U: RecordingWatch> RecordingWatch for SendWatch<R, U> {
+    fn begin_file(&mut self, name: &Name, measure: TakeMeasure) {
+        self.uploads.begin_file(name, measure);
+    }
+}
+
 impl<R, U: UploadWatch> UploadWatch for SendWatch<R, U> {
     fn part(&mut self, number: u32, count: u32) {
         self.uploads.part(number, count);
-    }
-
-    fn begin_file(&mut self, alloc: Global, name: &Name, file: &RecordingFile<'_>) {
-        self.uploads.begin_file(alloc, name, file);
     }
 
     fn begin_samples(&mut self, alloc: Global, name: &Name, samples: &SamplesSent<'_>) {
@@ -112,13 +107,15 @@ impl<G: Observer, U: Observer> Observer for LoggedWatch<G, U> {
     }
 }
 
+impl<G, U: RecordingWatch> RecordingWatch for LoggedWatch<G, U> {
+    fn begin_file(&mut self, name: &Name, measure: TakeMeasure) {
+        self.uploads.begin_file(name, measure);
+    }
+}
+
 impl<G: Observer, U: UploadWatch> UploadWatch for LoggedWatch<G, U> {
     fn part(&mut self, number: u32, count: u32) {
         self.uploads.part(number, count);
-    }
-
-    fn begin_file(&mut self, alloc: Global, name: &Name, file: &RecordingFile<'_>) {
-        self.uploads.begin_file(alloc, name, file);
     }
 
     fn begin_samples(&mut self, alloc: Global, name: &Name, samples: &SamplesSent<'_>) {

@@ -31,6 +31,9 @@ use Rattle.bw_plan.specs.declared.fault.RecordingKind.TheVariants.{Unread}
 use Rattle.bw_plan.proofs.Openings.{reads_as, faults_as, unread_as, not_outside, has_history, DataEnd, data_end}
 use Rattle.bw_plan.proofs.Openings.{recorded_as, refused_as, samples_len_is, samples_there}
 use Rattle.bw_recorder.specs.declared.opening.Extras.{Extras}
+use Rattle.bw_recorder.specs.declared.measure.Extent.TheVariants.{Whole}
+use Rattle.bw_recorder.specs.declared.measure.TakeMeasure.{TakeMeasure}
+use Rattle.bw_recorder.specs.Measures.{MeasuresFile, measure_of}
 use Rattle.bw_recorder.specs.WarningTexts.{warning_lines}
 use Rattle.bw_recorder.specs.declared.fault.OpenFault.TheVariants.{Refused, Changed}
 use Rattle.bw_recorder.specs.FaultHints.{unread_kind}
@@ -254,3 +257,14 @@ lossy b o r x outline lines text h asked some are says =
       some = λ none. some (listed ∙ ap warning_lines none);
       says = says ∙ ap (λ (z : List ℕ). z ++ lossy_line) listed;
     }
+
+-- the measure of a recording's outline is its own
+pub measured : (b : List ℕ) (o : Options) (r : Report) (x : Extras) (outline : Outline) (m : TakeMeasure) →
+    IsOutlined b o r x outline → m ≡ measure_of Whole o outline → MeasuresFile b o m
+measured b o r x outline m h is =
+    let form = h.report.1.reading_is.form in
+    let es : List Entry = h.report.1.reading_is.entries in (
+      record { outline = outline; samples = samples_of b (report_of b form es) },
+      recorded_as b o form es outline (reads_so b r h.report) (outlined_so b o r x outline h),
+      is,
+    )

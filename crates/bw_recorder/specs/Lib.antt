@@ -6,5 +6,6 @@ pub mod FaultHints
 pub mod Openings
 pub mod HeldHeaders
 pub mod SettingLists
+pub mod Measures
 pub mod Puts
 pub mod Packs

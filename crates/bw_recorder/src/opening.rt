@@ -10,10 +10,12 @@ ghost use Rattle.bw_plan.specs.Warnings.{warnings_of};
 ghost use Rattle.bw_recorder.specs.WarningTexts.{warning_lines};
 ghost use Rattle.bw_stream.specs.Readers.{Of};
 ghost use Rattle.bw_recorder.specs.FileReports.{HasExtras, HasReport};
+ghost use Rattle.bw_recorder.specs.Measures.{MeasuresFile};
 ghost use Rattle.bw_recorder.specs.Openings.{IsOpenedAt, IsOutlined, RefusesAs, is_system_well};
 ghost use Rattle.bw_recorder.specs.Openings.{is_well_at, lossy_line};
 
 use crate::fault::{NO_MEMORY, OpenFault, read_again, unread_as};
+use crate::measure::{Extent, TakeMeasure};
 use crate::warning_text::warning_text;
 use bw_inspect::{Report, inspect_recognizing};
 use bw_plan::{
@@ -31,6 +33,8 @@ pub struct Opened<R> {
     pub reader: R,
     /// A line for each thing that the recording loses of its file: none where it may lose nothing.
     pub warnings: Vec<u8>,
+    /// How long the recording is.
+    pub measure: TakeMeasure,
 }
 
 /// What follows the list of what a recording loses, where it may lose nothing.
@@ -53,6 +57,7 @@ struct Known<'a> {
     options: &'a Options,
     report: &'a Report,
     extras: &'a Extras,
+    measure: TakeMeasure,
 }
 
 /// Opens the recording in the file at a path. The file is opened four times.
@@ -72,6 +77,8 @@ pub fn open_recording<F: RecordingFiles>(
     ensures ok { IfOk result (λ x. Of (F.file_at files.old path.now) (λ b.
         IsOpenedAt b options.now x.plan x.warnings.items (F.File.left x.reader))) }
     ensures sound { IfOk result (λ x. IsSoundPlan x.plan.stage) }
+    ensures measure { IfOk result (λ x. Of (F.file_at files.old path.now) (λ b.
+        MeasuresFile b options.now x.measure)) }
     ensures err { IfErr result (λ e. Of (F.file_at files.old path.now) (λ b.
         RefusesAs b options.now e)) }
     ensures files { F.file_at files.new ≡ F.file_at files.old }
@@ -95,6 +102,7 @@ pub fn open_recording<F: RecordingFiles>(
         options,
         report: &report,
         extras: &extras,
+        measure: TakeMeasure::new(&outline, options, Extent::Whole),
     };
     begin(alloc, files, &known, outline)
 }
@@ -216,6 +224,7 @@ fn begin<F: RecordingFiles>(
         IsOutlined b known.now.options.now known.now.report.now known.now.extras.now outline →
         IsOpenedAt b known.now.options.now x.plan x.warnings.items (F.File.left x.reader))) }
     ensures sound { IfOk result (λ x. IsSoundPlan x.plan.stage) }
+    ensures measure { IfOk result (λ x. x.measure ≡ known.now.measure) }
     ensures err { IfErr result (λ e. Of (F.file_at files.old known.now.path.now) (λ b.
         IsOutlined b known.now.options.now known.now.report.now known.now.extras.now outline →
         RefusesAs b known.now.options.now e)) }
@@ -237,6 +246,7 @@ fn begin<F: RecordingFiles>(
             plan,
             reader,
             warnings: text,
+            measure: known.measure,
         }),
         Err(fault) => Err(read_again(fault)),
     }

@@ -142,11 +142,15 @@ abbrev pub IsAskedFor : Job → Options → Type 0
 IsAskedFor job o =
     options_of (map string_bytes job.file.settings.now) job.file.strict job.file.frames ≡ Some o
 
--- the header of the recording's state, and what the file at the state's path says for it
+-- the header of the state of the recording in this file
+abbrev pub IsStateHeader : Job → Options → KnownFile → List ℕ → Type 0
+IsStateHeader job o file header = Of file.bytes (λ b.
+    IsHeaderFor job.recorder.name.now job.place.address.now file.stamp o b header)
+
+-- .. and what the file at the state's path says for it
 pub record KnowsState (job : Job) (o : Options) (outside : Outside) (header : List ℕ) (found : Found)
     : Type 0 where
-  pub of_take : Of outside.file.bytes (λ b.
-      IsHeaderFor job.recorder.name.now job.place.address.now outside.file.stamp o b header)
+  pub of_take : IsStateHeader job o outside.file header
   pub says : IsStateFound (outside.states job.place.path.now) header found
 
 module _ {F : Type 0} (feed : FeedGhosts F FeedFault) (looks_at : Option FileStamp → F → Type 0)

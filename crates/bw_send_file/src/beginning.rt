@@ -1,27 +1,25 @@
 //! Where a sender begins, and the file of its state that it goes on with.
-ghost use Rattle.std.specs.Prelude.{◌≡◌, ◌≤◌, ◌⊎◌, IfOk, IfErr, OnOk, Some};
+ghost use Rattle.std.specs.Prelude.{◌≡◌, ◌≤◌, ◌⊎◌, true, IfOk, IfErr, OnOk};
 ghost use Rattle.std.specs.IoError.{error_kind};
 ghost use Rattle.std.specs.declared.io.ErrorKind.TheVariants.{OutOfMemory};
 ghost use Rattle.bw_console.specs.Prints.{IsPrint, Print, failures_if};
-ghost use Rattle.bw_ports.specs.declared.recording_files.FileStamp.{FileStamp as StampValue};
+ghost use Rattle.bw_plan.specs.Recordings.{Options as OptionsOf};
 ghost use Rattle.bw_ports.specs.Counts.{most_settled};
 ghost use Rattle.bw_ports.specs.States.{state_bytes};
 ghost use Rattle.bw_send_file.specs.FileLooks.{LooksAt};
-ghost use Rattle.bw_send_file.specs.FilesSentOn.{BeginsState, Continuation, HasReported};
-ghost use Rattle.bw_send_file.specs.FilesSentOn.{StopsBeforeSending, outside_by, sending_side};
-ghost use Rattle.bw_send_file.specs.FilesSentOn.{ways};
+ghost use Rattle.bw_send_file.specs.FilesSentOn.{BeginsState, Continuation, HasReported, IsStateHeader};
+ghost use Rattle.bw_send_file.specs.FilesSentOn.{KnownFile, StopsBeforeSending, outside_of};
+ghost use Rattle.bw_send_file.specs.FilesSentOn.{sending_side, ways};
 ghost use Rattle.bw_send_file.specs.FoundCounts.{BeginsLog, counts_begun, goes_on as is_gone_on};
 ghost use Rattle.bw_stream.specs.Moves.{one_more};
 
 use crate::PlanFeed;
 use crate::place::{Found, find_count};
 use crate::reports::report_unkept;
-use crate::resumed_header::read_header;
 use crate::resumed_job::Job;
 use crate::starting::begin_at;
 use bw_console::Exit;
-use bw_plan::Options;
-use bw_ports::{FileStamp, RecordingFiles, StateFiles, settled_line};
+use bw_ports::{RecordingFiles, StateFiles, settled_line};
 use bw_upload::{Feed, SendingSides};
 use std::alloc::{AllocError, Global};
 use std::io;
@@ -33,8 +31,6 @@ pub(crate) struct Beginning<L> {
     pub(crate) log: L,
     /// How many requests are passed over.
     pub(crate) count: u32,
-    /// The stamp that the recording's file had when its header was read.
-    pub(crate) stamp: FileStamp,
 }
 
 /// A recording that is to be sent from where its state says.
@@ -42,7 +38,8 @@ pub(crate) struct Beginning<L> {
 pub(crate) struct Asked<'a> {
     pub(crate) alloc: Global,
     pub(crate) job: Job<'a>,
-    pub(crate) options: &'a Options,
+    /// The header of the state.
+    pub(crate) header: &'a [u8],
 }
 
 /// Reads the state, asks the server, and opens the state's file to be written on.
@@ -51,54 +48,39 @@ pub(crate) struct Asked<'a> {
 /// How the command ends, if nothing can be sent: why is reported.
 pub(crate) fn begin<F: RecordingFiles, B: StateFiles, X: SendingSides>(
     asked: &Asked<'_>,
-    files: &mut F,
     states: &mut B,
     pause: &mut X::Pause,
     dial: &mut X::Dial,
     faults: &mut X::Diagnostics,
 ) -> Result<Beginning<B::Log>, Exit>
     ensures range { IfOk result (λ x. x.count ≤ most_settled) }
-    ensures stamp { IfOk result (λ x. (now : StampValue) →
-        F.stamp_at files.old asked.now.job.file.path.now ≡ Some now → x.stamp ≡ now) }
-    ensures files { F.file_at files.new ≡ F.file_at files.old }
-    ensures stamps { F.stamp_at files.new ≡ F.stamp_at files.old }
-    ensures ok { IfOk result (λ x. (began : Print)
-        × BeginsState (sending_side ⟦<PlanFeed<F::File, F::Stamped> as Feed>⟧
-        (LooksAt F.Stamped.Stamped) X.Pause.Pause X.Dial.Dial X.Dial.Reader.Source X.Dial.Writer.Sink)
-        asked.now.job asked.now.options.now
-        (outside_by F.RecordingFiles B.StateFiles asked.now.job files.old states.old states.new) x.count
-        (B.Log.written x.log) (ways pause.old dial.old) (ways pause.new dial.new) began
-        × (F.failures files.new ≡ F.failures files.old) × (B.failures states.new ≡ B.failures states.old)
+    ensures ok { IfOk result (λ x. (began : Print) × ((o : OptionsOf) (file : KnownFile) →
+        IsStateHeader asked.now.job o file asked.now.header.now →
+        BeginsState (sending_side ⟦<PlanFeed<F::File, F::Stamped> as Feed>⟧ (LooksAt F.Stamped.Stamped)
+        X.Pause.Pause X.Dial.Dial X.Dial.Reader.Source X.Dial.Writer.Sink) asked.now.job o
+        (outside_of file (B.state_at states.old) (B.state_at states.new)) x.count (B.Log.written x.log)
+        (ways pause.old dial.old) (ways pause.new dial.new) began)
+        × (B.failures states.new ≡ B.failures states.old)
         × IsPrint X.Diagnostics.Sink began faults.old faults.new) }
     ensures err { IfErr result (λ exit. (did : Continuation) × (did.exit ≡ exit)
-        × StopsBeforeSending (sending_side ⟦<PlanFeed<F::File, F::Stamped> as Feed>⟧
-        (LooksAt F.Stamped.Stamped) X.Pause.Pause X.Dial.Dial X.Dial.Reader.Source X.Dial.Writer.Sink)
-        asked.now.job asked.now.options.now
-        (outside_by F.RecordingFiles B.StateFiles asked.now.job files.old states.old states.new)
-        (ways pause.old dial.old) (ways pause.new dial.new) did
-        × (F.failures files.new ≡ failures_if did.sent.is_system_well (F.failures files.old))
+        × (did.sent.is_system_well ≡ true) × ((o : OptionsOf) (file : KnownFile) →
+        IsStateHeader asked.now.job o file asked.now.header.now →
+        StopsBeforeSending (sending_side ⟦<PlanFeed<F::File, F::Stamped> as Feed>⟧ (LooksAt F.Stamped.Stamped)
+        X.Pause.Pause X.Dial.Dial X.Dial.Reader.Source X.Dial.Writer.Sink) asked.now.job o
+        (outside_of file (B.state_at states.old) (B.state_at states.new))
+        (ways pause.old dial.old) (ways pause.new dial.new) did)
         × (B.failures states.new ≡ failures_if did.is_state_well (B.failures states.old))
         × HasReported X.Diagnostics.Sink did faults.old faults.new) }
 {
-    let Asked {
-        alloc,
-        job,
-        options,
-    } = *asked;
+    let Asked { alloc, job, header } = *asked;
     let path = job.place.path;
-    let header = read_header(alloc, &job, options, files, faults)?;
-    let found = match find_count(states, path, header.text.as_slice()) {
+    let found = match find_count(states, path, header) {
         Ok(found) => found,
         Err(error) => return Err(report_unkept(alloc, path, &error, faults)),
     };
     let count = begin_at(alloc, &job, found, pause, dial, faults)?;
-    let text = header.text.as_slice();
-    match open_log(alloc, states, path, text, found, count) {
-        Ok(log) => Ok(Beginning {
-            log,
-            count,
-            stamp: header.stamp,
-        }),
+    match open_log(alloc, states, path, header, found, count) {
+        Ok(log) => Ok(Beginning { log, count }),
         Err(error) => Err(report_unkept(alloc, path, &error, faults)),
     }
 }

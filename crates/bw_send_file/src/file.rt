@@ -2,6 +2,7 @@
 ghost use Rattle.std.specs.Prelude.{◌≡◌, IfOk, IfErr};
 ghost use Rattle.bw_console.specs.Prints.{failures_if};
 ghost use Rattle.bw_stream.specs.Readers.{Of};
+ghost use Rattle.bw_recorder.specs.Measures.{MeasuresFile};
 ghost use Rattle.bw_recorder.specs.Openings.{RefusesAs, is_system_well};
 ghost use Rattle.bw_recorder.specs.Packs.{HasPacked, Packing};
 ghost use Rattle.bw_send_file.specs.FileFeeds.{AreToCome, IsLookedAt};
@@ -16,13 +17,14 @@ use bw_console::Exit;
 use bw_plan::Options;
 use bw_ports::RecordingFiles;
 use bw_recorder::{
-    NO_MEMORY, OpenFault, open_recording, read_options, refuse_options, report_open_fault, warn,
+    NO_MEMORY, OpenFault, RecordingWatch, TakeMeasure, open_recording, read_options,
+    refuse_options, report_open_fault, warn,
 };
 use bw_upload::{Feed, Observer, SendingSides};
 use std::alloc::Global;
 
-/// Sends the recording in a job's file, as `send_feed` does. What the recording loses of the
-/// file is reported first.
+/// Sends the recording in a job's file, as `send_feed` does. Once the file is open, the watch learns
+/// of it, and what the recording loses of the file is reported.
 ///
 /// Before any link is made: `Refused` for a fault of the file or of the recording, whose line is
 /// `send: KIND at OFFSET`; `Usage` if a setting can't be read; `Device` if the file can't be opened,
@@ -32,11 +34,11 @@ use std::alloc::Global;
 /// - What `send_feed` leaves open.
 /// - When the system fails, and the reason in its line.
 /// - Of a file whose bytes aren't reported, which bytes the requests are of.
-pub fn send_file<F: RecordingFiles, X: SendingSides, V: Observer>(
+pub fn send_file<F: RecordingFiles, X: SendingSides, V: Observer + RecordingWatch>(
     job: &FileJob<'_>,
     files: &mut F,
     way: Way<'_, X>,
-    observer: &mut V,
+    watch: &mut V,
     out: &mut X::Output,
     faults: &mut X::Diagnostics,
 ) -> Exit
@@ -61,9 +63,10 @@ pub fn send_file<F: RecordingFiles, X: SendingSides, V: Observer>(
     };
     match open_feed(way.alloc, files, errand.path, &options) {
         Ok(mut opened) => {
+            watch.begin_file(job.recorder.name, opened.measure);
             warn(opened.warnings.as_slice(), faults);
             let rest = RestErrand { errand, count: 0 };
-            send_feed(&rest, &mut opened.feed, way, observer, out, faults)
+            send_feed(&rest, &mut opened.feed, way, watch, out, faults)
         }
         Err(fault) => report_open_fault(way.alloc, "send", errand.path, &fault, faults),
     }
@@ -76,6 +79,8 @@ pub struct Sendable<R, S> {
     pub feed: PlanFeed<R, S>,
     /// A line for each thing that the recording loses of its file.
     pub warnings: Vec<u8>,
+    /// How long the recording is.
+    pub measure: TakeMeasure,
 }
 
 /// Looks at the file at a path, and opens its recording.
@@ -97,6 +102,8 @@ pub fn open_feed<F: RecordingFiles>(
         (AreToCome (F.File.left (feed_reader x.feed)) (feed_plan x.feed)) x.warnings.items)) }
     ensures looked { IfOk result (λ x. IsLookedAt (F.stamp_at files.old path.now)
         (F.Stamped.stamp_of (feed_stamped x.feed)) (feed_stamp x.feed)) }
+    ensures measure { IfOk result (λ x. Of (F.file_at files.old path.now) (λ b.
+        MeasuresFile b options.now x.measure)) }
     ensures err { IfErr result (λ e. Of (F.file_at files.old path.now) (λ b.
         RefusesAs b options.now e)) }
     ensures files { F.file_at files.new ≡ F.file_at files.old }
@@ -121,6 +128,7 @@ pub fn open_feed<F: RecordingFiles>(
                 stamp,
             },
             warnings: opened.warnings,
+            measure: opened.measure,
         }),
         Err(fault) => Err(fault),
     }

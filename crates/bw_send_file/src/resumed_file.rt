@@ -11,11 +11,12 @@ use crate::keeper::StateKeeper;
 use crate::observers::Observers;
 use crate::reports::report_end;
 use crate::rest::{Rest, send_rest};
+use crate::resumed_header::read_header;
 use crate::resumed_job::Job;
 use crate::way::Way;
 use bw_console::Exit;
 use bw_ports::{RecordingFiles, StateKeeping};
-use bw_recorder::{read_options, refuse_options};
+use bw_recorder::{RecordingWatch, read_options, refuse_options};
 use bw_upload::{Feed, Observer, SendingSides};
 
 /// Recordings' files, and those of their states.
@@ -31,8 +32,9 @@ pub struct KeptFiles<'a, F: RecordingFiles + StateKeeping> {
 /// settled and stored. If the state is of this take already, it goes on at the count that it says:
 /// the premise is that this command wrote it, and that the server has kept what it stored.
 ///
-/// The server is asked first which number it expects next: if that is less, or the state is another
-/// one, all is sent again. Where it begins is reported first, unless there was no state.
+/// Once the file is open, the watch learns of it. Then the server is asked which number it expects
+/// next: if that is less, or the state is another one, all is sent again. Where it begins is reported
+/// first, unless there was no state.
 ///
 /// `Done` only if the feed has ended, each of its requests was offered, those after the first ones
 /// are stored, and the state was kept. Otherwise as `send_file`; besides, `Device` if the state
@@ -41,15 +43,19 @@ pub struct KeptFiles<'a, F: RecordingFiles + StateKeeping> {
 /// # Not specified
 /// - What `send_file` leaves open.
 /// - What the state's file has beyond its first bytes, and when a call on it fails.
-pub fn send_file_on<F: RecordingFiles + StateKeeping, X: SendingSides, V: Observer>(
+pub fn send_file_on<
+    F: RecordingFiles + StateKeeping,
+    X: SendingSides,
+    V: Observer + RecordingWatch,
+>(
     job: &Job<'_>,
     kept: KeptFiles<'_, F>,
     way: Way<'_, X>,
-    observer: &mut V,
+    watch: &mut V,
     out: &mut X::Output,
     faults: &mut X::Diagnostics,
 ) -> Exit
-    // The first N requests are skipped, none a CLOSE; `send_feed_after` sends the others.
+    // The first N requests are skipped, none a CLOSE; `send_feed` sends the others.
     ensures { (did : Continuation) × (did.exit ≡ result)
         × IsFileSentOn (sending_side ⟦<PlanFeed<F::File, F::Stamped> as Feed>⟧
         (LooksAt F.Stamped.Stamped) X.Pause.Pause X.Dial.Dial X.Dial.Reader.Source X.Dial.Writer.Sink) job.now
@@ -67,25 +73,30 @@ pub fn send_file_on<F: RecordingFiles + StateKeeping, X: SendingSides, V: Observ
         Ok(options) => options,
         Err(fault) => return refuse_options(fault, faults),
     };
+    let header = match read_header(alloc, job, &options, files, faults) {
+        Ok(header) => header,
+        Err(ended) => return ended,
+    };
+    watch.begin_file(job.recorder.name, header.measure);
     let asked = Asked {
         alloc,
         job: *job,
-        options: &options,
+        header: header.text.as_slice(),
     };
-    let beginning = match begin::<F, F::States, X>(&asked, files, states, pause, dial, faults) {
+    let beginning = match begin::<F, F::States, X>(&asked, states, pause, dial, faults) {
         Ok(beginning) => beginning,
         Err(exit) => return exit,
     };
-    let Beginning { log, count, stamp } = beginning;
+    let Beginning { log, count } = beginning;
     let mut stopwatch = files.stopwatch();
     let mut both = Observers {
         first: StateKeeper::new(log, &mut stopwatch, count),
-        second: observer,
+        second: watch,
     };
     let rest = Rest {
         job: *job,
         options: &options,
-        stamp,
+        stamp: header.stamp,
         count,
     };
     let way = Way::<X> { pause, dial, alloc };

@@ -1,13 +1,15 @@
 //! The header of a recording's state.
-ghost use Rattle.std.specs.Prelude.{◌≡◌, IfOk, IfErr, OnOk, List, Some, ℕ};
+ghost use Rattle.std.specs.Prelude.{◌≡◌, IfOk, IfErr, OnOk, List, Some};
 ghost use Rattle.bw_console.specs.Prints.{IsPrint, failures_if};
 ghost use Rattle.bw_model.specs.Take.{Request as Message};
 ghost use Rattle.bw_ports.specs.declared.recording_files.FileStamp.{FileStamp as StampValue};
+ghost use Rattle.bw_recorder.specs.Measures.{MeasuresFile};
 ghost use Rattle.bw_recorder.specs.Packs.{Packing};
+ghost use Rattle.bw_stream.specs.Readers.{Of};
 ghost use Rattle.bw_ports.specs.Headers.{state_header};
 ghost use Rattle.bw_send_file.specs.FileLooks.{LooksAt};
-ghost use Rattle.bw_send_file.specs.FilesSentOn.{GivesNoHeader, known_file_of};
-ghost use Rattle.bw_send_file.specs.SentOn.{IsHeaderFor, origin_for};
+ghost use Rattle.bw_send_file.specs.FilesSentOn.{GivesNoHeader, IsStateHeader, known_file_of};
+ghost use Rattle.bw_send_file.specs.SentOn.{origin_for};
 ghost use Rattle.bw_send_file.specs.TakeOpenings.{StopsOpening};
 ghost use Rattle.bw_send_file.specs.PlanFeeds.{feed_stamp};
 
@@ -18,7 +20,7 @@ use bw_console::Exit;
 use bw_model::Name;
 use bw_plan::Options;
 use bw_ports::{FileStamp, RecordingFiles, Stamped, Subject, header_text};
-use bw_recorder::report_open_fault;
+use bw_recorder::{TakeMeasure, report_open_fault};
 use bw_stream::{Sink, Source};
 use bw_upload::Feed;
 use std::alloc::Global;
@@ -30,6 +32,8 @@ pub(crate) struct FileHeader {
     pub(crate) text: Vec<u8>,
     /// The stamp that the file had before it was opened.
     pub(crate) stamp: FileStamp,
+    /// How long the recording is.
+    pub(crate) measure: TakeMeasure,
 }
 
 /// The header of the state of a recording in a file.
@@ -43,12 +47,12 @@ pub(crate) fn read_header<F: RecordingFiles, E: Sink>(
     files: &mut F,
     faults: &mut E,
 ) -> Result<FileHeader, Exit>
-    ensures ok { IfOk result (λ header. (b : List ℕ) →
-        F.file_at files.old job.now.file.path.now ≡ Some b →
-        IsHeaderFor job.now.recorder.name.now job.now.place.address.now
-        (F.stamp_at files.old job.now.file.path.now) options.now b header.text.items) }
+    ensures ok { IfOk result (λ header. IsStateHeader job.now options.now
+        (known_file_of job.now (F.file_at files.old) (F.stamp_at files.old)) header.text.items) }
     ensures stamp { IfOk result (λ header. (now : StampValue) →
         F.stamp_at files.old job.now.file.path.now ≡ Some now → header.stamp ≡ now) }
+    ensures measure { IfOk result (λ header. Of (F.file_at files.old job.now.file.path.now) (λ b.
+        MeasuresFile b options.now header.measure)) }
     ensures files { F.file_at files.new ≡ F.file_at files.old }
     ensures stamps { F.stamp_at files.new ≡ F.stamp_at files.old }
     ensures well { OnOk result (F.failures files.new ≡ F.failures files.old) }
@@ -64,7 +68,11 @@ pub(crate) fn read_header<F: RecordingFiles, E: Sink>(
         Ok(mut opened) => {
             let stamp = opened.feed.stamp();
             match header_of(alloc, job, &mut opened.feed) {
-                Ok(text) => Ok(FileHeader { text, stamp }),
+                Ok(text) => Ok(FileHeader {
+                    text,
+                    stamp,
+                    measure: opened.measure,
+                }),
                 Err(fault) => Err(report_file_fault(alloc, path, &fault, faults)),
             }
         }

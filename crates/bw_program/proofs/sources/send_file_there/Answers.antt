@@ -25,7 +25,7 @@ returns-then-is_odd g c =
 
 pub returns-then-sender : goal.returns-then-sender
 returns-then-sender g c =
-    let sent = c.send_file_watched.ensures in record {
+    let sent = c.send_file_as.ensures in record {
       sent = (
         c.kind_at-kind.result,
         rw c.as_str-path.ensures.value at c.kind_at-kind.ensures,
@@ -39,7 +39,7 @@ returns-then-sender g c =
 
 pub returns : goal.returns
 returns g c =
-    let sent = c.send_file_watched-2.ensures in record {
+    let sent = c.send_file_as-2.ensures in record {
       sent = (
         c.kind_at-kind.result,
         rw c.as_str-path.ensures.value at c.kind_at-kind.ensures,

@@ -24,7 +24,7 @@ returns-in_default g c =
 pub returns : goal.returns
 returns g c =
     let text : c.as_str.result.now ≡ socket_text c.args.sender.now.connect = search rules in
-    let s = c.send_file_on.ensures in record {
+    let s = c.send_file_on-exit.ensures in record {
       sent = inl (record {
         first = c.dial_paced-links.result;
         calls = c.dial_paced-links.ensures.received;

@@ -3,7 +3,7 @@ use Rattle.bw_program.proofs.uploads.send_new.Goals as goal
 
 pub returns : goal.returns
 returns g c =
-    let sent = c.send_file.ensures in record {
+    let sent = c.send_file-exit.ensures in record {
       sent = record {
         first = c.dial_paced-dial.result;
         calls = c.dial_paced-dial.ensures.received;

@@ -18,3 +18,8 @@ returns-in-Ok-open_recording-clause-ok g c = λ b e.
         are = sym x.requests;
       };
     }
+
+pub returns-in-Ok-open_recording-clause-measure : goal.returns-in-Ok-open_recording-clause-measure
+returns-in-Ok-open_recording-clause-measure g c = λ b e.
+    c.in-Ok-open_recording.ensures.measure b
+    (ap (λ (f : List ℕ → Option (List ℕ)). f c.args.path.now) (c.in-Ok-stamp.ensures.files ∙ c.in-Ok.ensures.files) ∙ e)

@@ -1,13 +1,16 @@
 -- How much of a take its requests bring.
 use Rattle.std.specs.Prelude.{◌≡◌, ℕ, ◌+◌, ◌-◌, ◌*◌, ◌/◌, ◌^◌, min, List, Option, Some, None, Ok}
+use Rattle.std.specs.Prelude.{map, string_bytes}
 use Rattle.bw_model.specs.Take.{block_align}
 use Rattle.bw_plan.specs.PcmRecordings.{pcm_outline_of}
 use Rattle.bw_plan.specs.Recordings.{Options, Outline, Recording, block_frames, given_count}
 use Rattle.bw_plan.specs.Recordings.{recording_of}
 use Rattle.bw_plan.specs.declared.pcm.Pcm.{Pcm}
-use Rattle.bw_progress.specs.declared.measure.Extent.{Extent}
-use Rattle.bw_progress.specs.declared.measure.Extent.TheVariants.{Whole, Growing}
-use Rattle.bw_progress.specs.declared.measure.TakeMeasure.{TakeMeasure}
+use Rattle.bw_recorder.specs.SettingLists.{options_of}
+use Rattle.bw_recorder.specs.declared.job.RecordingFile.{RecordingFile}
+use Rattle.bw_recorder.specs.declared.measure.Extent.{Extent}
+use Rattle.bw_recorder.specs.declared.measure.Extent.TheVariants.{Whole, Growing}
+use Rattle.bw_recorder.specs.declared.measure.TakeMeasure.{TakeMeasure}
 
 -- how many frames a recording is known to have
 abbrev pub known_frames : Extent → Outline → Option ℕ
@@ -48,3 +51,8 @@ MeasuresFile b o m = (recording : Recording) × (recording_of b o ≡ Ok recordi
 abbrev pub MeasuresSamples : Extent → Pcm → Options → TakeMeasure → Type 0
 MeasuresSamples extent pcm o m = (len : ℕ) × (outline : Outline)
     × (pcm_outline_of o pcm len ≡ Ok outline) × (m ≡ measure_of extent o outline)
+
+-- what is asked for beside the file can be read, and this holds of it
+abbrev pub HoldsOfOptions : RecordingFile → (Options → Type 0) → Type 0
+HoldsOfOptions file holds = (o : Options)
+    × (options_of (map string_bytes file.settings.now) file.strict file.frames ≡ Some o) × holds o

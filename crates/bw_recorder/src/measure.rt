@@ -1,7 +1,7 @@
 //! How long a take is, and how much of it its requests bring.
 ghost use Rattle.std.specs.Prelude.{◌≡◌, ◌+◌, ◌*◌, ◌-◌, ◌^◌, min};
-ghost use Rattle.bw_progress.specs.Measures.{done_bytes as bytes_done};
-ghost use Rattle.bw_progress.specs.Measures.{done_frames as frames_done, measure_of};
+ghost use Rattle.bw_recorder.specs.Measures.{done_bytes as bytes_done};
+ghost use Rattle.bw_recorder.specs.Measures.{done_frames as frames_done, measure_of};
 
 use bw_plan::{Options, Outline, block_frames};
 
