@@ -1,18 +1,20 @@
 -- What is done for a request, from what is done for a narrower one.
-use Rattle.std.proofs.Common.{◌≡◌, ℕ, Bool, List, Option, Some, None, true, false, subst, sym}
+use Rattle.std.proofs.Common.{◌≡◌, ℕ, Bool, List, Option, Some, None, Result, Ok, true, false, ap, subst, sym}
 use Rattle.std.specs.Prelude.{option_map, string_bytes}
 use Rattle.bw_args.specs.declared.CommandLine.{CommandLine}
 use Rattle.bw_args.specs.declared.Task.{Task}
 use Rattle.bw_args.specs.declared.recordings.FileSender.{FileSender}
 use Rattle.bw_args.specs.declared.recordings.PcmSender.{PcmSender}
 use Rattle.bw_args.specs.declared.recordings.ReceiptTarget.{ReceiptTarget}
+use Rattle.bw_args.specs.declared.recordings.SourceFile.{SourceFile}
 use Rattle.bw_console.specs.declared.exit.Exit.{Exit}
 use Rattle.bw_ports.specs.declared.listener_setup.ListenerSetup.{Ghosts as ListenerSetupGhosts}
 use Rattle.bw_ports.specs.declared.network.Network.{Ghosts as NetworkGhosts}
 use Rattle.bw_program.specs.PcmCommands.{SendsBySpool}
-use Rattle.bw_program.specs.Programs.{DoesRequest, IsSentAlone, SendsFound}
+use Rattle.bw_program.specs.LeftOutCommands.{KeepWorld, KeepsAt, keep_world}
+use Rattle.bw_program.specs.Programs.{DoesRequest, DoneIfKept, IsSentAlone, KeepsFirst, SendsFileAlone, SendsFound}
 use Rattle.bw_program.specs.ReceiptCommands.{SendsAsAsked, sender_world}
-use Rattle.bw_program.specs.Requests.{FoundRecording, RecordingAsAsked, RecordingWithReceipt}
+use Rattle.bw_program.specs.Requests.{FoundRecording, RecordingWithReceipt}
 use Rattle.bw_program.specs.Requests.{ByLine, ByTask, AnyRecording, AnySamples}
 use Rattle.bw_program.specs.Requests.{FileSamples, KeptRecording, NewRecording, SpooledSamples}
 use Rattle.bw_program.specs.Uploads.{SendsByPath}
@@ -62,36 +64,53 @@ module _ {S T F H G M SB SL KP RC Ed LK DK DF N X Z P R W L K SP SK D A B U J Q 
       {x x' : ProgramWorld S F DK N Q I O E} → sender.receipt ≡ None →
       IsSentAlone host server_side sender_side upload_side network listener_setup kept_servers
       (FoundRecording sender) exit x x' →
-      IsSentAlone host server_side sender_side upload_side network listener_setup kept_servers
-      (RecordingAsAsked sender) exit x x'
-  asked_without {sender} {exit} {x} {x'} is done = record {
-    sent = subst (λ (target : Option ReceiptTarget). SendsAsAsked host.files host.receipts host.out host.reported
+      SendsFileAlone host server_side sender_side upload_side network listener_setup kept_servers
+      (host.system.failures x.system) sender exit x x'
+  asked_without {sender} {exit} {x} {x'} is done = (
+    subst (λ (target : Option ReceiptTarget). SendsAsAsked host.files host.receipts host.out host.reported
         (SendsFound host server_side sender_side upload_side network listener_setup kept_servers
         sender x.network) sender target exit (sender_world x.files x.pause x.out x.faults)
-        (sender_world x'.files x'.pause x'.out x'.faults)) (sym is) done.sent;
-    well = done.well;
-    unused = done.unused;
-    unread = done.unread;
-    kept = done.kept;
-  }
+        (sender_world x'.files x'.pause x'.out x'.faults)) (sym is) done.sent,
+    done.well,
+    done.unused,
+    done.unread,
+    done.kept,
+  )
 
   -- with the receipt that the command line asks for
   pub asked_with : {sender : FileSender} {target : ReceiptTarget} {exit : Exit}
       {x x' : ProgramWorld S F DK N Q I O E} → sender.receipt ≡ Some target →
       IsSentAlone host server_side sender_side upload_side network listener_setup kept_servers
       (RecordingWithReceipt target sender) exit x x' →
-      IsSentAlone host server_side sender_side upload_side network listener_setup kept_servers
-      (RecordingAsAsked sender) exit x x'
-  asked_with {sender} {target} {exit} {x} {x'} is done = record {
-    sent = subst (λ (target : Option ReceiptTarget). SendsAsAsked host.files host.receipts host.out host.reported
+      SendsFileAlone host server_side sender_side upload_side network listener_setup kept_servers
+      (host.system.failures x.system) sender exit x x'
+  asked_with {sender} {target} {exit} {x} {x'} is done = (
+    subst (λ (target : Option ReceiptTarget). SendsAsAsked host.files host.receipts host.out host.reported
         (SendsFound host server_side sender_side upload_side network listener_setup kept_servers
         sender x.network) sender target exit (sender_world x.files x.pause x.out x.faults)
-        (sender_world x'.files x'.pause x'.out x'.faults)) (sym is) done.sent;
-    well = done.well;
-    unused = done.unused;
-    unread = done.unread;
-    kept = done.kept;
-  }
+        (sender_world x'.files x'.pause x'.out x'.faults)) (sym is) done.sent,
+    done.well,
+    done.unused,
+    done.unread,
+    done.kept,
+  )
+
+  -- nothing is kept before it is sent, as its command line asks for nothing to be kept
+  pub none_kept : {source : SourceFile} (failed : ℕ)
+      (done : Exit → ProgramWorld S F DK N Q I O E → ProgramWorld S F DK N Q I O E → Type 0) (exit : Exit)
+      (x x' : ProgramWorld S F DK N Q I O E) → source.left_out ≡ None →
+      KeepsFirst host server_side sender_side upload_side network listener_setup kept_servers failed source
+      done exit x x' → done exit x x'
+  none_kept {source} failed done exit x x' none first =
+      let kept : (first.result ≡ Ok tt) × (first.kept ≡ keep_world x.files x.disk x.faults) =
+      subst (λ (to : Option (List ℕ)). KeepsAt host.files host.kinds host.disk host.reported to
+      (string_bytes source.path) first.result (keep_world x.files x.disk x.faults) first.kept)
+      (ap (option_map string_bytes) none) first.keeps in
+      let ends = subst (λ (w : KeepWorld F DK E). DoneIfKept host server_side sender_side upload_side network
+      listener_setup kept_servers failed first.result done exit
+      (record x { files = w.files; disk = w.disk; faults = w.faults }) x') kept.1 first.ends in
+      subst (λ (r : Result (Unit {0}) Exit). DoneIfKept host server_side sender_side upload_side network
+      listener_setup kept_servers failed r done exit x x') kept.0 ends
 
   -- from a spool
   pub any_spooled : {sender : PcmSender} {exit : Exit}

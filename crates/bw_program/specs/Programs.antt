@@ -49,7 +49,7 @@ use Rattle.bw_program.specs.PcmUploads.{SendsFilled, SendsPcm}
 use Rattle.bw_program.specs.Requests.{ProgramRequest, ByWords, ByLine, ByTask, ByUpload, Upload}
 use Rattle.bw_program.specs.ReceiptCommands.{SendsAsAsked, SendsWithReceipt, SenderWorld, sender_world}
 use Rattle.bw_program.specs.Requests.{NewRecording, KeptRecording, AnyRecording}
-use Rattle.bw_program.specs.Requests.{FoundRecording, RecordingWithReceipt, RecordingAsAsked}
+use Rattle.bw_program.specs.Requests.{FoundRecording, RecordingWithReceipt}
 use Rattle.bw_program.specs.Requests.{SpooledSamples, FileSamples, FilledSamples, SetSamples, AnySamples}
 use Rattle.bw_program.specs.Requests.{EachRecording, NamedRecording, OneRecording}
 use Rattle.bw_program.specs.SeveralCommands.{DoesAfter, DoesInTurn, IsRequestOf, IsSenderOf, PrintsQueueLine}
@@ -406,7 +406,6 @@ module _ {S T F H G M SB SL KP RC Ed LK DK DF N X Z P R W L K SP SK D A B U J Q 
       SendsWithReceipt host.files host.receipts host.out host.reported (SendsFound sender x.network) sender
       target exit (sender_world x.files x.pause x.out x.faults)
       (sender_world x'.files x'.pause x'.out x'.faults)
-  IsSentOver (RecordingAsAsked sender) exit x x' = SendsFileAsAsked sender exit x x'
   IsSentOver (SpooledSamples sender) exit x x' =
       SendsBySpool upload_side sender_side network host.files host.states host.spools host.out host.reported
       x.started true sender exit x.files x'.files x.network x.pause x'.pause x.out x'.out x.faults x'.faults

@@ -12,17 +12,15 @@ use Rattle.bw_queue.specs.declared.recording.QueuedRecording.{QueuedRecording}
 use Rattle.bw_take_files.specs.declared.receipts.receipt.Receipt.{Receipt}
 
 -- what is sent: a recording, without a state, with the state at a path, or as the command line says,
--- also only if a file is there, and so with a receipt, or as the command line says; headerless samples, of
--- a spool, of a file, with these fields filled, with what these texts set, or as the command line says; of
--- several recordings one, with the line that names it, also unless its receipt is there already, or each of
--- them
+-- also only if a file is there, and so with a receipt; headerless samples, of a spool, of a file, with these
+-- fields filled, with what these texts set, or as the command line says; of several recordings one, with the
+-- line that names it, also unless its receipt is there already, or each of them
 pub data Upload : Type 0 where
   NewRecording : FileSender → Upload
   KeptRecording : List ℕ → FileSender → Upload
   AnyRecording : FileSender → Upload
   FoundRecording : FileSender → Upload
   RecordingWithReceipt : ReceiptTarget → FileSender → Upload
-  RecordingAsAsked : FileSender → Upload
   SpooledSamples : PcmSender → Upload
   FileSamples : PcmSender → Upload
   FilledSamples : Filled → PcmSender → Upload

@@ -6,8 +6,9 @@ ghost use Rattle.bw_program.specs.Requests.{ByTask};
 
 use crate::behavior::Behavior;
 use crate::outside::{Environment, Outside, ProgressObservers};
+use crate::receipts::send_with_receipt;
 use crate::recordings::pack_as;
-use crate::sources::send_file_asked;
+use crate::sources::send_file_there;
 use bw_args::{FileSender, SourceFile};
 use bw_console::Exit;
 use bw_disk::Volume;
@@ -42,8 +43,8 @@ fn keep_asked<F: RecordingFiles + FileKinds, D: Volume, E: Sink>(
     keep_left_out(alloc, files, disk, path, to.as_str(), faults)
 }
 
-/// Sends the recording that the command line names, after the chunks that a take doesn't carry were kept,
-/// if that is asked for.
+/// Sends the recording that the command line names, if a file is there, after the chunks that a take
+/// doesn't carry were kept, and puts its receipt once all is stored, if that is asked for.
 pub(crate) fn send_file_kept<X: Environment>(
     alloc: Global,
     sender: &FileSender,
@@ -62,7 +63,10 @@ pub(crate) fn send_file_kept<X: Environment>(
     ) {
         return exit;
     }
-    send_file_asked(alloc, sender, outside, observers)
+    match &sender.receipt {
+        None => send_file_there(alloc, sender, outside, observers),
+        Some(target) => send_with_receipt(alloc, sender, target, outside, observers),
+    }
 }
 
 /// Prints the requests of a recording, after the chunks that a take doesn't carry were kept, if that is

@@ -1,5 +1,5 @@
 //! What the program does: its words, and what they ask for.
-ghost use Rattle.std.specs.Prelude.{◌≡◌, ◌++◌, ℕ, List, true, Some, IfOk, map, string_bytes};
+ghost use Rattle.std.specs.Prelude.{◌≡◌, ◌++◌, ℕ, List, true, IfOk, string_bytes};
 ghost use Rattle.std.specs.Process.{exit_status};
 ghost use Rattle.clap.specs.Values.{kind_of};
 ghost use Rattle.bw_args.specs.Lines.{HasNumbersInRange};
@@ -49,40 +49,16 @@ pub fn start<X: Environment>(
     ensures { (exit : Exit) × (exit_status result ≡ status_of exit) × ⟦<Outside<X> as Behavior>⟧.does
         (ByWords build.now (X.System.words outside.old.system)) exit outside.old outside.new }
 {
-    ExitCode::from(obey(alloc, build, outside, observers).status())
-}
-
-/// Reads the command line, and does what it asks for.
-fn obey<X: Environment>(
-    alloc: Global,
-    build: &str,
-    outside: &mut Outside<X>,
-    observers: &mut ProgressObservers<X>,
-) -> Exit
-    ensures { ⟦<Outside<X> as Behavior>⟧.does
-        (ByWords build.now (X.System.words outside.old.system)) result outside.old outside.new }
-{
-    match outside.system.words() {
-        Ok(words) => answer(alloc, build, words.as_slice(), outside, observers),
-        Err(error) => report_bad_argv(&error, &mut outside.faults),
-    }
-}
-
-/// Does what these words ask for.
-fn answer<X: Environment>(
-    alloc: Global,
-    build: &str,
-    words: &[String],
-    outside: &mut Outside<X>,
-    observers: &mut ProgressObservers<X>,
-) -> Exit
-    ensures { ⟦<Outside<X> as Behavior>⟧.does
-        (ByWords build.now (Some (map string_bytes words.now))) result outside.old outside.new }
-{
-    match parse(alloc, words) {
-        Ok(line) => perform(alloc, build, &line, outside, observers),
-        Err(_) => give_up(&mut outside.faults, &Fault::Memory),
-    }
+    let words = match outside.system.words() {
+        Ok(words) => words,
+        Err(error) => {
+            return ExitCode::from(report_bad_argv(&error, &mut outside.faults).status());
+        }
+    };
+    let Ok(line) = parse(alloc, words.as_slice()) else {
+        return ExitCode::from(give_up(&mut outside.faults, &Fault::Memory).status());
+    };
+    ExitCode::from(perform(alloc, build, &line, outside, observers).status())
 }
 
 /// Does what a command line asks for.

@@ -6,9 +6,9 @@ ghost use Rattle.bw_program.specs.SeveralCommands.{DoesInTurn, IsRequestOf, Prin
 ghost use Rattle.bw_program.specs.SeveralCommands.{receipts_path};
 
 use crate::behavior::Behavior;
+use crate::left_out::send_file_kept;
 use crate::outside::{Environment, Outside, ProgressObservers};
 use crate::sender_of::sender_of;
-use crate::sources::send_file_asked;
 use bw_args::FilesSender;
 use bw_console::print::{give_up, print_text};
 use bw_console::{Exit, Fault};
@@ -183,7 +183,7 @@ fn send_named<X: Environment>(
         &mut outside.faults,
     ) {
         Exit::Memory => Exit::Memory,
-        said => worse(said, send_file_asked(alloc, &sender, outside, observers)),
+        said => worse(said, send_file_kept(alloc, &sender, outside, observers)),
     }
 }
 

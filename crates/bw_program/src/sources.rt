@@ -1,33 +1,15 @@
 //! The commands that send what a path names, once it is known that no pipe, folder or device is there.
 ghost use Rattle.bw_args.specs.declared.Task.TheVariants.{SendPcm};
-ghost use Rattle.bw_program.specs.Requests.{ByTask, ByUpload, FoundRecording, RecordingAsAsked};
+ghost use Rattle.bw_program.specs.Requests.{ByTask, ByUpload, FoundRecording};
 
 use crate::behavior::Behavior;
 use crate::outside::{Environment, Outside, ProgressObservers};
-use crate::receipts::send_with_receipt;
 use crate::samples::send_pcm_watched;
 use crate::uploads::send_file_as;
 use bw_args::{FileSender, PcmSender};
 use bw_console::Exit;
 use bw_ports::{FileKinds, refuse_kind};
 use std::alloc::Global;
-
-/// Sends the recording that the command line names, if a file is there, and puts its receipt once all
-/// is stored, if one is asked for.
-pub(crate) fn send_file_asked<X: Environment>(
-    alloc: Global,
-    sender: &FileSender,
-    outside: &mut Outside<X>,
-    observers: &mut ProgressObservers<X>,
-) -> Exit
-    ensures { ⟦<Outside<X> as Behavior>⟧.does (ByUpload (RecordingAsAsked sender.now)) result
-        outside.old outside.new }
-{
-    match &sender.receipt {
-        None => send_file_there(alloc, sender, outside, observers),
-        Some(target) => send_with_receipt(alloc, sender, target, outside, observers),
-    }
-}
 
 /// Sends the recording that the command line names, if a file is there. Its progress is logged with
 /// each change of the link, or shown.

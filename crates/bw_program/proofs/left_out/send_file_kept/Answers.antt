@@ -1,4 +1,5 @@
 use Rattle.std.proofs.Common.{Err, Ok, refl}
+use Rattle.bw_program.proofs.RequestLemmas.{asked_with, asked_without}
 use Rattle.bw_program.proofs.left_out.send_file_kept.Goals as goal
 
 pub returns-in-Err : goal.returns-in-Err
@@ -25,9 +26,9 @@ returns-in-Err g c = record {
   );
 }
 
-pub returns : goal.returns
-returns g c =
-    let sent = c.send_file_asked.ensures in record {
+pub returns-in-None : goal.returns-in-None
+returns-in-None g c =
+    let sent = asked_without _ _ _ _ _ _ _ c.in-None.is c.send_file_there.ensures in record {
       result = Ok c.in_default.field-0;
       kept = record {
         files = c.keep_asked.new.files;
@@ -35,5 +36,18 @@ returns g c =
         faults = c.keep_asked.new.faults;
       };
       keeps = c.in_default.ensures;
-      ends = (sent.sent, sent.well, sent.unused, sent.unread, sent.kept);
+      ends = sent;
+    }
+
+pub returns-in-Some : goal.returns-in-Some
+returns-in-Some g c =
+    let sent = asked_with _ _ _ _ _ _ _ c.in-Some.is c.send_with_receipt.ensures in record {
+      result = Ok c.in_default.field-0;
+      kept = record {
+        files = c.keep_asked.new.files;
+        disk = c.keep_asked.new.disk;
+        faults = c.keep_asked.new.faults;
+      };
+      keeps = c.in_default.ensures;
+      ends = sent;
     }

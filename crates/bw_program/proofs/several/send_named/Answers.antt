@@ -1,5 +1,6 @@
 use Rattle.std.proofs.Common.{inl, inr, refl}
 use Rattle.bw_console.specs.declared.exit.Exit.TheVariants as exits
+use Rattle.bw_program.proofs.RequestLemmas.{none_kept}
 use Rattle.bw_program.proofs.SeveralLemmas.{done_after}
 use Rattle.bw_program.proofs.several.send_named.Goals as goal
 
@@ -37,7 +38,8 @@ returns-in-Memory g c = record {
 
 pub returns : goal.returns
 returns g c =
-    let sent = c.send_file_asked.ensures in record {
+    let sent = none_kept _ _ _ _ _ _ _ _ _ c.send_file_kept.result _ _ c.in-Ok.ensures.keeps_none
+    c.send_file_kept.ensures in record {
       sent = inl (record {
         sender = c.in-Ok.sender;
         sender_is = c.in-Ok.ensures;
@@ -45,14 +47,11 @@ returns g c =
         out = c.say_line.new.out;
         faults = c.say_line.new.faults;
         says = c.say_line.ensures;
-        ends = done_after _ c.say_line.result _ _ _ c.in_default-say_line.not-Memory (
-          c.send_file_asked.result,
-          (sent.sent, sent.well, sent.unused, sent.unread, sent.kept),
-          c.worse.ensures,
-        );
+        ends = done_after _ c.say_line.result _ _ _ c.in_default-say_line.not-Memory
+            (c.send_file_kept.result, sent, c.worse.ensures);
       });
-      well = sent.well;
-      unused = sent.unused;
-      unread = sent.unread;
-      kept = sent.kept;
+      well = sent.1;
+      unused = sent.2;
+      unread = sent.3;
+      kept = sent.4;
     }
