@@ -1,6 +1,7 @@
 //! What to do about the fault of a recording.
 ghost use Rattle.std.specs.Prelude.{◌≡◌, ◌++◌, ◌≤◌, length};
-ghost use Rattle.bw_recorder.specs.FaultHints.{byte_line, float_line, other_form_line, recording_hint, unclean_line};
+ghost use Rattle.bw_recorder.specs.FaultHints.{byte_line, float_line, other_form_line, recording_hint};
+ghost use Rattle.bw_recorder.specs.FaultHints.{unclean_line};
 
 use crate::warning_text::key;
 use arrayvec::ArrayString;

@@ -4,7 +4,8 @@ ghost use Rattle.std.specs.Prelude.{IfSome, IsTrue, ◌==◌, ◌≤◌, not, le
 ghost use Rattle.std.specs.List.{prefix_len};
 ghost use Rattle.bw_plan.specs.AllowedSettings.{are_settings};
 ghost use Rattle.bw_plan.specs.CleanedContents.{printable_byte};
-ghost use Rattle.bw_recorder.specs.SettingLists.{SaysBadSetting, bad_setting_line, first_bad_key, shown_key as key_as_shown};
+ghost use Rattle.bw_recorder.specs.SettingLists.{SaysBadSetting, bad_setting_line, first_bad_key};
+ghost use Rattle.bw_recorder.specs.SettingLists.{shown_key as key_as_shown};
 ghost use Rattle.bw_recorder.specs.SettingLists.{LacksOptions, options_of as options_by, settings_after};
 
 use crate::fault::OptionsFault;

@@ -1,5 +1,6 @@
 -- The requests of a recording whose markers are placed while it is made.
-use Rattle.std.specs.Prelude.{◌≡◌, ◌⊎◌, ◌/◌, length, ℕ, List, [], ◌∷◌, ◌++◌, drop, fold, map, option_to_list, Option, Some, None, Result, Ok, Err}
+use Rattle.std.specs.Prelude.{◌≡◌, ◌⊎◌, ◌/◌, length, ℕ, List, [], ◌∷◌, ◌++◌, drop, fold, map, option_to_list}
+use Rattle.std.specs.Prelude.{Option, Some, None, Result, Ok, Err}
 use Rattle.bw_model.specs.Report.{RawCue}
 use Rattle.bw_model.specs.Take.{Request, Open, Block, Mark, SetField, Close}
 use Rattle.bw_live.specs.declared.marker.Marker.{Ghosts as MarkerGhosts}

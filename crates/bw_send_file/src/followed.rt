@@ -5,7 +5,8 @@ ghost use Rattle.bw_console.specs.Prints.{failures_if};
 ghost use Rattle.bw_recorder.specs.Openings.{is_system_well};
 ghost use Rattle.bw_recorder.specs.Packs.{HasPacked, Packing};
 ghost use Rattle.bw_send_file.specs.Marked.{points_known};
-ghost use Rattle.bw_send_file.specs.PcmSendings.{FollowsFile, FollowsUnmarked, IsKnownLen, IsPcmSent, placed_in};
+ghost use Rattle.bw_send_file.specs.PcmSendings.{FollowsFile, FollowsUnmarked, IsKnownLen, IsPcmSent};
+ghost use Rattle.bw_send_file.specs.PcmSendings.{placed_in};
 
 use crate::marked_feed::MarkedFeed;
 use crate::pcm_feed::PcmFeed;
@@ -110,7 +111,8 @@ fn open_marker<F: RecordingFiles + Marking>(
 ) -> io::Result<Option<F::Marker>>
     ensures files { F.file_at files.new ≡ F.file_at files.old }
     ensures count { F.failures files.new ≡ failures_after result (F.failures files.old) }
-    ensures places { IfOk result (λ marker. points_known F.Marker.Marker marker ≡ placed_in F.points_at files.old file.now) }
+    ensures places { IfOk result (λ marker.
+        points_known F.Marker.Marker marker ≡ placed_in F.points_at files.old file.now) }
 {
     let Some(marks) = file.marks else {
         return Ok(None);

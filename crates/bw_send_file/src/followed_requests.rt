@@ -245,7 +245,8 @@ impl<F: Followed + Drop> PcmRequests<F> {
 
     /// Where a read failed.
     fn unread(&self) -> PcmFault
-        ensures { result ≡ PcmFault.Unread (min (self.now.place + length self.now.samples.held) (2 ^ 64 - 1)) }
+        ensures { result
+            ≡ PcmFault.Unread (min (self.now.place + length self.now.samples.held) (2 ^ 64 - 1)) }
     {
         PcmFault::Unread {
             place: self.place.saturating_add(self.samples.bytes().len() as u64),

@@ -3,7 +3,8 @@ ghost use Rattle.std.specs.Prelude.{◌≡◌, ◌<◌, [], ℕ, List, Some, IfO
 ghost use Rattle.bw_model.specs.Take.{Request as Message};
 ghost use Rattle.bw_plan.specs.Plans.{mark_request};
 ghost use Rattle.bw_send_file.specs.Marked.{GivesFirstOf, GivesMark, IsHeldUp, close_frames as frames_closed};
-ghost use Rattle.bw_send_file.specs.Marked.{marked_state, markers_placed, points_known, requests_before, marks_waiting};
+ghost use Rattle.bw_send_file.specs.Marked.{marked_state, markers_placed, marks_waiting, points_known};
+ghost use Rattle.bw_send_file.specs.Marked.{requests_before};
 
 use crate::FeedFault;
 use crate::kept_markers::kept_markers;

@@ -4,7 +4,8 @@ ghost use Rattle.bw_model.specs.World.{Sender as Defined};
 ghost use Rattle.bw_sender.specs.Senders.{IsSender};
 ghost use Rattle.bw_upload.specs.declared.outcome.Outcome.TheVariants as outcomes;
 ghost use Rattle.bw_send_file.specs.Sendings.{SettlesOffered, is_feed_fault};
-ghost use Rattle.bw_send_file.specs.Sendings.{outcome_after as defined_outcome, settling_most as most_settling};
+ghost use Rattle.bw_send_file.specs.Sendings.{outcome_after as defined_outcome};
+ghost use Rattle.bw_send_file.specs.Sendings.{settling_most as most_settling};
 
 use crate::fault::FeedFault;
 use bw_ports::{Dial, Pause};
