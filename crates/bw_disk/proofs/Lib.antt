@@ -1,4 +1,7 @@
 pub mod MemoryDisks
+pub mod HadContents
+pub mod PowerLemmas
+pub mod GrownFiles
 pub mod Cuts
 pub mod PrefixReads
 pub mod DiskChains

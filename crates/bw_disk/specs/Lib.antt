@@ -2,6 +2,8 @@ pub mod Disks
 pub mod MemoryDisks
 pub mod FileWrites
 pub mod Volumes
+pub mod PowerLosses
+pub mod PowerLaws
 pub mod DiskSteps
 pub mod ReadFaults
 pub mod MortalDisks

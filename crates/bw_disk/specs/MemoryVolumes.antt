@@ -1,6 +1,7 @@
 -- What is seen of a disk in memory, and of its open files.
 use Rattle.std.specs.Prelude.{ℕ, List, Option, string_bytes}
 use Rattle.bw_disk.specs.MemoryDisks.{content_at, synced_at}
+use Rattle.bw_disk.specs.PowerLosses.{had_in_memory}
 use Rattle.bw_disk.specs.declared.memory_disk.StoredFile.{StoredFile}
 use Rattle.bw_disk.specs.declared.memory_disk.MemoryDisk.{MemoryDisk}
 use Rattle.bw_disk.specs.declared.memory_disk.MemoryFile.{MemoryFile}
@@ -16,6 +17,10 @@ disk_content d path = content_at (files_on d) path
 -- the content that it had when it was last synced
 abbrev pub disk_synced : MemoryDisk → List ℕ → Option (List ℕ)
 disk_synced d path = synced_at (files_on d) path
+
+-- and what it had since then
+abbrev pub disk_had : MemoryDisk → List ℕ → List (Option (List ℕ))
+disk_had d path = had_in_memory (disk_content d path) (disk_synced d path)
 
 -- how many calls the disk has got
 abbrev pub disk_calls : MemoryDisk → ℕ

@@ -3,6 +3,7 @@ ghost use Rattle.std.specs.Prelude.{◌≡◌, ℕ, List, Bool, Option, IsTrue, 
 ghost use Rattle.std.specs.Prelude.{is_err, length};
 ghost use Rattle.bw_store.specs.Stores.{Written, MayTear, KeepsOthers};
 ghost use Rattle.bw_disk.specs.Disks.{Makes, IsOneCall, Syncs};
+ghost use Rattle.bw_disk.specs.PowerLosses.{HadNoMore, HadNoMoreBut, HadNowToo, HadOnlyNow};
 
 use thiserror::Error;
 
@@ -17,7 +18,8 @@ pub struct DiskFault;
 ///
 /// A file is written by the one who made it: no call of this trait opens a file that is there
 /// already. The clauses on contents speak of an honest disk: one that keeps the writes that it
-/// reported as successful, and whose files nobody else changes.
+/// reported as successful, and whose files nobody else changes; and of which a loss of power takes
+/// nothing that was synced, even if another sync of it had failed before.
 pub trait Disk: Drop {
     /// An open file.
     type File: Drop;
@@ -27,6 +29,11 @@ pub trait Disk: Drop {
 
     /// The content that each path had when its file was last synced.
     ghost synced: { Self → List ℕ → Option (List ℕ) };
+
+    /// What each path had since its file and its folder were last synced: contents, and `None` if there
+    /// was no file, or if its folder may not list it. A loss of power leaves one of these, or a mixture
+    /// of them (`may_find`): each byte is one that its place had, or zero if it was changed.
+    ghost had: { Self → List ℕ → List (Option (List ℕ)) };
 
     /// The path of an open file.
     ghost path_of: { Self.File → List ℕ };
@@ -58,6 +65,10 @@ pub trait Disk: Drop {
             OnErr result (contents self.new path.now ≡ contents self.old path.now) }
         ensures others { IsTrue (honest self.old) →
             KeepsOthers (contents self.old) (contents self.new) path.now }
+        ensures there { IsTrue (honest self.old) → HadNowToo
+            (contents self.new path.now) (had self.old path.now) (had self.new path.now) }
+        ensures had { IsTrue (honest self.old) →
+            HadNoMoreBut path.now (had self.old) (had self.new) }
         ensures synced { IsTrue (honest self.old) →
             (other : List ℕ) → synced self.new other ≡ synced self.old other };
 
@@ -87,6 +98,10 @@ pub trait Disk: Drop {
             (contents self.new (path_of file.old))) }
         ensures others { IsTrue (honest self.old) →
             KeepsOthers (contents self.old) (contents self.new) (path_of file.old) }
+        ensures there { IsTrue (honest self.old) → HadNowToo (contents self.new (path_of file.old))
+            (had self.old (path_of file.old)) (had self.new (path_of file.old)) }
+        ensures had { IsTrue (honest self.old) →
+            HadNoMoreBut (path_of file.old) (had self.old) (had self.new) }
         ensures synced { IsTrue (honest self.old) →
             (other : List ℕ) → synced self.new other ≡ synced self.old other };
 
@@ -103,6 +118,10 @@ pub trait Disk: Drop {
         ensures honest { honest self.new ≡ honest self.old }
         ensures unchanged { IsTrue (honest self.old) →
             (other : List ℕ) → contents self.new other ≡ contents self.old other }
+        ensures only { IsTrue (honest self.old) → OnOk result
+            (HadOnlyNow (contents self.old (path_of file.now))
+            (had self.old (path_of file.now)) (had self.new (path_of file.now))) }
+        ensures had { IsTrue (honest self.old) → HadNoMore (had self.old) (had self.new) }
         ensures synced { IsTrue (honest self.old) → Syncs result
             (contents self.old (path_of file.now)) (synced self.old) (synced self.new)
             (path_of file.now) };

@@ -1,9 +1,10 @@
 //! Files by path: of the system, in memory, and on a disk that dies.
 //! Not stated: that the system's disk is honest; whether a cut or a move in which a disk dies was
-//! done.
+//! done; what a loss of power leaves of a file that was moved.
 #![tactic(auto)]
 
 mod disk;
+pub mod laws;
 mod memory_copy;
 mod memory_disk;
 mod memory_volume;

@@ -1,11 +1,12 @@
 //! A disk in memory.
-ghost use Rattle.std.specs.Prelude.{◌≡◌, ◌≤◌, ◌+◌, ℕ, List, None, true, IsTrue, IsOk, IfOk, IsSome};
+ghost use Rattle.std.specs.Prelude.{◌≡◌, ◌≤◌, ◌+◌, ℕ, List, [], ◌∷◌, None, true, IsTrue, IsOk, IfOk, IsSome};
 ghost use Rattle.std.specs.Prelude.{IfSome, OnOk, OnErr, is_err, string_bytes, length};
 ghost use Rattle.std.specs.Option.{option_copied};
 ghost use Rattle.std.specs.List.{position};
 ghost use Rattle.bw_store.specs.Stores.{Counts, Written, MayTear, KeepsOthers};
 ghost use Rattle.bw_disk.specs.Disks.{Makes, Syncs};
 ghost use Rattle.bw_disk.specs.MemoryDisks.{stands_at, content_at, synced_at};
+ghost use Rattle.bw_disk.specs.PowerLosses.{HadNoMore, HadNoMoreBut, HadNowToo, HadOnlyNow};
 
 use crate::disk::{Disk, DiskFault};
 use bw_store::{CallCounter, overwrite};
@@ -28,7 +29,9 @@ pub struct MemoryFile {
 /// Files in memory, by path. A call fails if memory is refused, if bytes would end at 2^64 or
 /// later, and if nothing is at the path of its file, or at the one that it renames.
 ///
-/// It is an honest disk, which shows that the promises of `Disk` and `Volume` can be kept.
+/// It is an honest disk, which shows that the promises of `Disk` and `Volume` can be kept. Its folders
+/// list each file at once. A file had what is in it now and what was in it at its last sync, where one
+/// that was never synced was empty.
 #[derive(Drop)]
 pub struct MemoryDisk {
     pub(crate) alloc: Global,
@@ -42,6 +45,7 @@ impl MemoryDisk {
         ensures honest { IsTrue (⟦<MemoryDisk as Disk>⟧.honest result) }
         ensures empty { (path : List ℕ) → ⟦<MemoryDisk as Disk>⟧.contents result path ≡ None }
         ensures synced { (path : List ℕ) → ⟦<MemoryDisk as Disk>⟧.synced result path ≡ None }
+        ensures had { (path : List ℕ) → ⟦<MemoryDisk as Disk>⟧.had result path ≡ None ∷ [] }
         ensures failures { ⟦<MemoryDisk as Disk>⟧.failures result ≡ 0 }
         ensures calls { ⟦<MemoryDisk as Disk>⟧.calls result ≡ 0 }
     {
@@ -65,13 +69,15 @@ impl MemoryDisk {
 
 impl Disk for MemoryDisk {
     ghost use Rattle.bw_disk.specs.MemoryVolumes.{files_on, disk_content, disk_synced, open_path};
-    ghost use Rattle.bw_disk.specs.MemoryVolumes.{disk_calls, disk_failures};
+    ghost use Rattle.bw_disk.specs.MemoryVolumes.{disk_calls, disk_failures, disk_had};
 
     type File = MemoryFile;
 
     ghost contents = { disk_content };
 
     ghost synced = { disk_synced };
+
+    ghost had = { disk_had };
 
     ghost path_of = { open_path };
 
@@ -100,6 +106,9 @@ impl Disk for MemoryDisk {
         ensures failed { OnErr result (files_on self.new ≡ files_on self.old) }
         ensures others { KeepsOthers
             (disk_content self.old) (disk_content self.new) path.now }
+        ensures there { HadNowToo (disk_content self.new path.now)
+            (disk_had self.old path.now) (disk_had self.new path.now) }
+        ensures had { HadNoMoreBut path.now (disk_had self.old) (disk_had self.new) }
         ensures synced { (other : List ℕ) →
             disk_synced self.new other ≡ disk_synced self.old other }
         ensures stands { IsSome (disk_content self.old path.now) → IsOk result }
@@ -134,6 +143,9 @@ impl Disk for MemoryDisk {
             ≡ disk_content self.old (open_path file.old)) }
         ensures others { KeepsOthers (disk_content self.old)
             (disk_content self.new) (open_path file.old) }
+        ensures there { HadNowToo (disk_content self.new (open_path file.old))
+            (disk_had self.old (open_path file.old)) (disk_had self.new (open_path file.old)) }
+        ensures had { HadNoMoreBut (open_path file.old) (disk_had self.old) (disk_had self.new) }
         ensures synced { (other : List ℕ) →
             disk_synced self.new other ≡ disk_synced self.old other }
         ensures over { IfSome (disk_content self.old (open_path file.old))
@@ -156,6 +168,9 @@ impl Disk for MemoryDisk {
         ensures calls { Counts (disk_calls self.old) (disk_calls self.new) true }
         ensures unchanged { (other : List ℕ) →
             disk_content self.new other ≡ disk_content self.old other }
+        ensures only { OnOk result (HadOnlyNow (disk_content self.old (open_path file.now))
+            (disk_had self.old (open_path file.now)) (disk_had self.new (open_path file.now))) }
+        ensures had { HadNoMore (disk_had self.old) (disk_had self.new) }
         ensures synced { Syncs result
             (disk_content self.old (open_path file.now))
             (disk_synced self.old) (disk_synced self.new)

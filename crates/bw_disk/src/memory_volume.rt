@@ -77,7 +77,7 @@ impl Volume for MemoryDisk {
         answer
     }
 
-    /// Does nothing: a disk in memory survives no loss of power.
+    /// Does nothing: each file is listed at once.
     fn sync_folder(&mut self, _folder: &str) -> Result<(), DiskFault> {
         self.call_counter.count(false);
         Ok(())

@@ -5,6 +5,7 @@ ghost use Rattle.bw_store.specs.Stores.{MayTear};
 ghost use Rattle.bw_disk.specs.Disks.{Makes};
 ghost use Rattle.bw_disk.specs.DiskSteps.{ChangesAt, SyncsOne};
 ghost use Rattle.bw_disk.specs.MortalDisks.{IsCallCounted, IsMortalCall, IsMortalWrite};
+ghost use Rattle.bw_disk.specs.PowerLosses.{HadNoMore, HadNoMoreBut, HadNowToo, HadOnlyNow};
 
 use crate::disk::{Disk, DiskFault};
 use crate::volume::Volume;
@@ -140,6 +141,8 @@ impl<D: Volume> Disk for MortalDisk<D> {
 
     ghost synced = { λ d path. D.synced d.inner path };
 
+    ghost had = { λ d path. D.had d.inner path };
+
     ghost path_of = { λ file. D.path_of file };
 
     ghost failures = { λ d. d.failures };
@@ -162,6 +165,11 @@ impl<D: Volume> Disk for MortalDisk<D> {
             (D.contents self.old.inner path.now) (D.contents self.new.inner path.now)) }
         ensures failed { IsTrue (D.honest self.old.inner) → OnErr result
             (D.contents self.new.inner path.now ≡ D.contents self.old.inner path.now) }
+        ensures there { IsTrue (D.honest self.old.inner) → HadNowToo
+            (D.contents self.new.inner path.now)
+            (D.had self.old.inner path.now) (D.had self.new.inner path.now) }
+        ensures had { IsTrue (D.honest self.old.inner) →
+            HadNoMoreBut path.now (D.had self.old.inner) (D.had self.new.inner) }
         ensures rest { ChangesAt D.Disk path.now self.old.inner self.new.inner }
     {
         self.live()?;
@@ -184,6 +192,11 @@ impl<D: Volume> Disk for MortalDisk<D> {
         ensures failed { IsTrue (D.honest self.old.inner) → OnErr result (MayTear
             (D.contents self.old.inner (D.path_of file.old)) offset (length bytes.now)
             (D.contents self.new.inner (D.path_of file.old))) }
+        ensures there { IsTrue (D.honest self.old.inner) → HadNowToo
+            (D.contents self.new.inner (D.path_of file.old))
+            (D.had self.old.inner (D.path_of file.old)) (D.had self.new.inner (D.path_of file.old)) }
+        ensures had { IsTrue (D.honest self.old.inner) →
+            HadNoMoreBut (D.path_of file.old) (D.had self.old.inner) (D.had self.new.inner) }
         ensures rest { ChangesAt D.Disk (D.path_of file.old) self.old.inner self.new.inner }
     {
         if self.is_dying() {
@@ -203,6 +216,12 @@ impl<D: Volume> Disk for MortalDisk<D> {
     /// called then.
     fn sync(&mut self, file: &D::File) -> Result<(), DiskFault>
         ensures call { IsMortalCall D.Disk self.old self.new (is_err result) }
+        ensures only { IsTrue (D.honest self.old.inner) → OnOk result
+            (HadOnlyNow (D.contents self.old.inner (D.path_of file.now))
+            (D.had self.old.inner (D.path_of file.now))
+            (D.had self.new.inner (D.path_of file.now))) }
+        ensures had { IsTrue (D.honest self.old.inner) →
+            HadNoMore (D.had self.old.inner) (D.had self.new.inner) }
         ensures rest { SyncsOne D.Disk result (D.path_of file.now)
             self.old.inner self.new.inner }
     {

@@ -5,6 +5,8 @@ ghost use Rattle.bw_disk.specs.DiskSteps.{StaysWhole, ChangesAt, SyncsOne};
 ghost use Rattle.bw_disk.specs.MortalDisks.{IsMortalCall, IsMortalWrite};
 ghost use Rattle.bw_disk.specs.Volumes.{Finds, ReadsFrom, WrittenInPart, IsCutTo, IsCutInPart};
 ghost use Rattle.bw_disk.specs.Volumes.{Moves, Renames, Lists, KeepsEach, KeepsAllBut};
+ghost use Rattle.bw_disk.specs.PowerLosses.{HadNoMore, HadNoMoreBut, HadNoMoreButTwo};
+ghost use Rattle.bw_disk.specs.PowerLosses.{HadNowToo, HadOnlyNow, AreListed};
 
 use crate::disk::DiskFault;
 use crate::mortal::MortalDisk;
@@ -21,6 +23,8 @@ impl<D: Volume> Volume for MortalDisk<D> {
         ensures call { IsMortalCall D.Disk self.old self.new (is_err result) }
         ensures found { IsTrue (D.honest self.old.inner) → IfOk result
             (λ found. Finds D.path_of path.now found (D.contents self.old.inner path.now)) }
+        ensures had { IsTrue (D.honest self.old.inner) →
+            HadNoMore (D.had self.old.inner) (D.had self.new.inner) }
         ensures rest { StaysWhole D.Disk self.old.inner self.new.inner }
     {
         self.live()?;
@@ -37,6 +41,8 @@ impl<D: Volume> Volume for MortalDisk<D> {
         ensures call { IsMortalCall D.Disk self.old self.new (is_err result) }
         ensures value { IsTrue (D.honest self.old.inner) → IfOk result (λ len.
             option_map length (D.contents self.old.inner (D.path_of file.now)) ≡ Some len) }
+        ensures had { IsTrue (D.honest self.old.inner) →
+            HadNoMore (D.had self.old.inner) (D.had self.new.inner) }
         ensures rest { StaysWhole D.Disk self.old.inner self.new.inner }
     {
         self.live()?;
@@ -61,6 +67,8 @@ impl<D: Volume> Volume for MortalDisk<D> {
         ensures read { IsTrue (D.honest self.old.inner) → IfOk result (λ count. ReadsFrom
             (D.contents self.old.inner (D.path_of file.old)) offset (length room.old) count
             room.new) }
+        ensures had { IsTrue (D.honest self.old.inner) →
+            HadNoMore (D.had self.old.inner) (D.had self.new.inner) }
         ensures rest { StaysWhole D.Disk self.old.inner self.new.inner }
     {
         self.live()?;
@@ -83,6 +91,11 @@ impl<D: Volume> Volume for MortalDisk<D> {
         ensures failed { IsTrue (D.honest self.old.inner) → OnErr result (WrittenInPart
             (D.contents self.old.inner (D.path_of file.old)) offset bytes.now
             (D.contents self.new.inner (D.path_of file.old))) }
+        ensures there { IsTrue (D.honest self.old.inner) → HadNowToo
+            (D.contents self.new.inner (D.path_of file.old))
+            (D.had self.old.inner (D.path_of file.old)) (D.had self.new.inner (D.path_of file.old)) }
+        ensures had { IsTrue (D.honest self.old.inner) →
+            HadNoMoreBut (D.path_of file.old) (D.had self.old.inner) (D.had self.new.inner) }
         ensures rest { ChangesAt D.Disk (D.path_of file.old) self.old.inner self.new.inner }
     {
         if self.is_dying() {
@@ -110,6 +123,11 @@ impl<D: Volume> Volume for MortalDisk<D> {
         ensures failed { IsTrue (D.honest self.old.inner) → OnErr result (IsCutInPart
             (D.contents self.old.inner (D.path_of file.old)) len
             (D.contents self.new.inner (D.path_of file.old))) }
+        ensures there { IsTrue (D.honest self.old.inner) → HadNowToo
+            (D.contents self.new.inner (D.path_of file.old))
+            (D.had self.old.inner (D.path_of file.old)) (D.had self.new.inner (D.path_of file.old)) }
+        ensures had { IsTrue (D.honest self.old.inner) →
+            HadNoMoreBut (D.path_of file.old) (D.had self.old.inner) (D.had self.new.inner) }
         ensures rest { ChangesAt D.Disk (D.path_of file.old) self.old.inner self.new.inner }
     {
         if self.succeeds_unseen() {
@@ -135,6 +153,8 @@ impl<D: Volume> Volume for MortalDisk<D> {
         ensures failed { IsTrue (D.honest self.old.inner) → OnErr result
             (Moves from.now to.now (D.contents self.old.inner) (D.contents self.new.inner)
             ⊎ KeepsEach (D.contents self.old.inner) (D.contents self.new.inner)) }
+        ensures had { IsTrue (D.honest self.old.inner) →
+            HadNoMoreButTwo from.now to.now (D.had self.old.inner) (D.had self.new.inner) }
         ensures synced { IsTrue (D.honest self.old.inner) →
             KeepsAllBut from.now to.now (D.synced self.old.inner) (D.synced self.new.inner) }
     {
@@ -156,6 +176,8 @@ impl<D: Volume> Volume for MortalDisk<D> {
         ensures call { IsMortalCall D.Disk self.old self.new (is_err result) }
         ensures names { IsTrue (D.honest self.old.inner) → IfOk result (λ names.
             Lists folder.now (D.contents self.old.inner) (map string_bytes names.items)) }
+        ensures had { IsTrue (D.honest self.old.inner) →
+            HadNoMore (D.had self.old.inner) (D.had self.new.inner) }
         ensures rest { StaysWhole D.Disk self.old.inner self.new.inner }
     {
         if let Err(_dead) = self.live() {
@@ -172,6 +194,12 @@ impl<D: Volume> Volume for MortalDisk<D> {
     /// called then.
     fn sync_data(&mut self, file: &D::File) -> Result<(), DiskFault>
         ensures call { IsMortalCall D.Disk self.old self.new (is_err result) }
+        ensures only { IsTrue (D.honest self.old.inner) → OnOk result
+            (HadOnlyNow (D.contents self.old.inner (D.path_of file.now))
+            (D.had self.old.inner (D.path_of file.now))
+            (D.had self.new.inner (D.path_of file.now))) }
+        ensures had { IsTrue (D.honest self.old.inner) →
+            HadNoMore (D.had self.old.inner) (D.had self.new.inner) }
         ensures rest { SyncsOne D.Disk result (D.path_of file.now)
             self.old.inner self.new.inner }
     {
@@ -187,6 +215,10 @@ impl<D: Volume> Volume for MortalDisk<D> {
     /// called then.
     fn sync_folder(&mut self, folder: &str) -> Result<(), DiskFault>
         ensures call { IsMortalCall D.Disk self.old self.new (is_err result) }
+        ensures listed { IsTrue (D.honest self.old.inner) → OnOk result
+            (AreListed folder.now (D.contents self.old.inner) (D.had self.new.inner)) }
+        ensures had { IsTrue (D.honest self.old.inner) →
+            HadNoMore (D.had self.old.inner) (D.had self.new.inner) }
         ensures rest { StaysWhole D.Disk self.old.inner self.new.inner }
     {
         self.live()?;

@@ -19,6 +19,12 @@ use std::marker::Model;
 /// anything about `create_new` and `sync_all`, so `honest` is false here, and what is proved about
 /// honest disks says nothing about this one: that its calls do what an honest disk does is a
 /// premise.
+///
+/// So is what a loss of power leaves of the machine's disk: of a file that was synced its content, of a
+/// folder that was synced its names; and of all else, byte for byte, something that was there since, or
+/// zero. A file system meets that whose new blocks read as zero until they are written (ext4 with
+/// `data=ordered`, xfs), over a disk that keeps what it reported as flushed, as long as no sync has
+/// failed since it was mounted.
 #[derive(Drop)]
 pub struct SystemDisk<R> {
     pub(crate) rt: R,
@@ -61,6 +67,8 @@ impl<R: Files + Drop> Disk for SystemDisk<R> {
     ghost contents = { λ d path. None };
 
     ghost synced = { λ d path. None };
+
+    ghost had = { λ d path. [] };
 
     ghost path_of = { λ file. [] };
 

@@ -5,6 +5,8 @@ ghost use Rattle.bw_store.specs.Stores.{Written, KeepsOthers};
 ghost use Rattle.bw_disk.specs.Disks.{IsOneCall, Syncs};
 ghost use Rattle.bw_disk.specs.Volumes.{Finds, ReadsFrom, WrittenInPart, IsCutTo, IsCutInPart};
 ghost use Rattle.bw_disk.specs.Volumes.{Moves, Renames, Lists, KeepsEach, KeepsAllBut};
+ghost use Rattle.bw_disk.specs.PowerLosses.{HadNoMore, HadNoMoreBut, HadNoMoreButTwo};
+ghost use Rattle.bw_disk.specs.PowerLosses.{HadNowToo, HadOnlyNow, AreListed};
 
 use crate::disk::{Disk, DiskFault};
 use crate::reading::ReadFault;
@@ -30,6 +32,8 @@ pub trait Volume: Disk {
             (λ found. Finds Self.path_of path.now found (Self.contents self.old path.now)) }
         ensures contents { IsTrue (Self.honest self.old) →
             KeepsEach (Self.contents self.old) (Self.contents self.new) }
+        ensures had { IsTrue (Self.honest self.old) →
+            HadNoMore (Self.had self.old) (Self.had self.new) }
         ensures synced { IsTrue (Self.honest self.old) →
             KeepsEach (Self.synced self.old) (Self.synced self.new) };
 
@@ -47,6 +51,8 @@ pub trait Volume: Disk {
             (λ len. option_map length (Self.contents self.old (Self.path_of file.now)) ≡ Some len) }
         ensures contents { IsTrue (Self.honest self.old) →
             KeepsEach (Self.contents self.old) (Self.contents self.new) }
+        ensures had { IsTrue (Self.honest self.old) →
+            HadNoMore (Self.had self.old) (Self.had self.new) }
         ensures synced { IsTrue (Self.honest self.old) →
             KeepsEach (Self.synced self.old) (Self.synced self.new) };
 
@@ -73,6 +79,8 @@ pub trait Volume: Disk {
             (Self.contents self.old (Self.path_of file.old)) offset (length room.old) count room.new) }
         ensures contents { IsTrue (Self.honest self.old) →
             KeepsEach (Self.contents self.old) (Self.contents self.new) }
+        ensures had { IsTrue (Self.honest self.old) →
+            HadNoMore (Self.had self.old) (Self.had self.new) }
         ensures synced { IsTrue (Self.honest self.old) →
             KeepsEach (Self.synced self.old) (Self.synced self.new) };
 
@@ -97,6 +105,11 @@ pub trait Volume: Disk {
             (Self.contents self.new (Self.path_of file.old))) }
         ensures others { IsTrue (Self.honest self.old) →
             KeepsOthers (Self.contents self.old) (Self.contents self.new) (Self.path_of file.old) }
+        ensures there { IsTrue (Self.honest self.old) → HadNowToo
+            (Self.contents self.new (Self.path_of file.old))
+            (Self.had self.old (Self.path_of file.old)) (Self.had self.new (Self.path_of file.old)) }
+        ensures had { IsTrue (Self.honest self.old) →
+            HadNoMoreBut (Self.path_of file.old) (Self.had self.old) (Self.had self.new) }
         ensures synced { IsTrue (Self.honest self.old) →
             KeepsEach (Self.synced self.old) (Self.synced self.new) };
 
@@ -120,6 +133,11 @@ pub trait Volume: Disk {
             (Self.contents self.new (Self.path_of file.old))) }
         ensures others { IsTrue (Self.honest self.old) →
             KeepsOthers (Self.contents self.old) (Self.contents self.new) (Self.path_of file.old) }
+        ensures there { IsTrue (Self.honest self.old) → HadNowToo
+            (Self.contents self.new (Self.path_of file.old))
+            (Self.had self.old (Self.path_of file.old)) (Self.had self.new (Self.path_of file.old)) }
+        ensures had { IsTrue (Self.honest self.old) →
+            HadNoMoreBut (Self.path_of file.old) (Self.had self.old) (Self.had self.new) }
         ensures synced { IsTrue (Self.honest self.old) →
             KeepsEach (Self.synced self.old) (Self.synced self.new) };
 
@@ -135,7 +153,7 @@ pub trait Volume: Disk {
     ///
     /// # Not specified
     /// - When the disk fails, and why: the error doesn't distinguish lack of memory.
-    /// - What is synced of the two paths.
+    /// - What is synced of the two paths, and what a loss of power leaves of them.
     fn rename(&mut self, from: &str, to: &str) -> Result<bool, DiskFault>
         ensures call { IsOneCall Self.calls Self.failures self.old self.new (is_err result) }
         ensures honest { Self.honest self.new ≡ Self.honest self.old }
@@ -144,6 +162,8 @@ pub trait Volume: Disk {
         ensures failed { IsTrue (Self.honest self.old) → OnErr result
             (Moves from.now to.now (Self.contents self.old) (Self.contents self.new)
             ⊎ KeepsEach (Self.contents self.old) (Self.contents self.new)) }
+        ensures had { IsTrue (Self.honest self.old) →
+            HadNoMoreButTwo from.now to.now (Self.had self.old) (Self.had self.new) }
         ensures synced { IsTrue (Self.honest self.old) →
             KeepsAllBut from.now to.now (Self.synced self.old) (Self.synced self.new) };
 
@@ -164,6 +184,8 @@ pub trait Volume: Disk {
             Lists folder.now (Self.contents self.old) (map string_bytes names.items)) }
         ensures contents { IsTrue (Self.honest self.old) →
             KeepsEach (Self.contents self.old) (Self.contents self.new) }
+        ensures had { IsTrue (Self.honest self.old) →
+            HadNoMore (Self.had self.old) (Self.had self.new) }
         ensures synced { IsTrue (Self.honest self.old) →
             KeepsEach (Self.synced self.old) (Self.synced self.new) };
 
@@ -180,6 +202,11 @@ pub trait Volume: Disk {
         ensures honest { Self.honest self.new ≡ Self.honest self.old }
         ensures contents { IsTrue (Self.honest self.old) →
             KeepsEach (Self.contents self.old) (Self.contents self.new) }
+        ensures only { IsTrue (Self.honest self.old) → OnOk result
+            (HadOnlyNow (Self.contents self.old (Self.path_of file.now))
+            (Self.had self.old (Self.path_of file.now)) (Self.had self.new (Self.path_of file.now))) }
+        ensures had { IsTrue (Self.honest self.old) →
+            HadNoMore (Self.had self.old) (Self.had self.new) }
         ensures synced { IsTrue (Self.honest self.old) → Syncs result
             (Self.contents self.old (Self.path_of file.now)) (Self.synced self.old) (Self.synced self.new)
             (Self.path_of file.now) };
@@ -187,16 +214,20 @@ pub trait Volume: Disk {
     /// Asks that the names in a folder survive a loss of power.
     ///
     /// # Errors
-    /// `DiskFault` if the disk failed.
+    /// `DiskFault` if the disk failed: any of the names may be lost still.
     ///
     /// # Not specified
     /// - When the disk fails, and why.
-    /// - What a success guarantees: no clause says which names survive.
+    /// - That a name is lost for good whose file was moved.
     fn sync_folder(&mut self, folder: &str) -> Result<(), DiskFault>
         ensures call { IsOneCall Self.calls Self.failures self.old self.new (is_err result) }
         ensures honest { Self.honest self.new ≡ Self.honest self.old }
         ensures contents { IsTrue (Self.honest self.old) →
             KeepsEach (Self.contents self.old) (Self.contents self.new) }
+        ensures listed { IsTrue (Self.honest self.old) → OnOk result
+            (AreListed folder.now (Self.contents self.old) (Self.had self.new)) }
+        ensures had { IsTrue (Self.honest self.old) →
+            HadNoMore (Self.had self.old) (Self.had self.new) }
         ensures synced { IsTrue (Self.honest self.old) →
             KeepsEach (Self.synced self.old) (Self.synced self.new) };
 }

@@ -1,19 +1,22 @@
 -- Whatever is torn of a journal's last entries, some first ones are read.
 use Rattle.std.proofs.Common.{◌≡◌, ℕ, zero, suc, ◌+◌, ◌-◌, ◌≤◌, Bool, true, Option, Some, None, Ok, List, [], ◌∷◌, ◌++◌}
-use Rattle.std.proofs.Common.{length, take, drop, map, refl, sym, ap, ◌∙◌, arith}
+use Rattle.std.proofs.Common.{length, take, drop, map, refl, sym, ap, ◌∙◌, append_assoc, arith}
 use Rattle.std.specs.Prelude.{min}
 use Rattle.std.specs.List.{list_all}
 use Rattle.std.proofs.lemmas.Bool.{and_parts}
+use Rattle.std.proofs.lemmas.Grind.{flat_map-append}
 use Rattle.std.proofs.lemmas.List.{append-nil, length-drop, map-append, take-append-drop, take-take, take_min}
 use Rattle.std.proofs.lemmas.List.Folds.{list_all-append}
 use Rattle.bw_model.specs.Take.{Request}
 use Rattle.bw_model.specs.Wire.{is_request}
 use Rattle.bw_journal.specs.Lines.{journal_lines}
-use Rattle.bw_journal.specs.Entries.{JournalEntry, entry_line, sealed_entries}
+use Rattle.bw_journal.specs.Entries.{JournalEntry, content, entry_line, sealed_entry, sealed_entries}
+use Rattle.bw_journal.specs.JournalHeaders.{header_bytes}
 use Rattle.bw_journal.specs.Replays.{replay}
 use Rattle.bw_journal.specs.NotedJournals.{fits, done_entry, entries_from, journal_of, story_of_log, up_to, EntriesSurvive}
-use Rattle.bw_journal.proofs.LineLaws.{torn_first}
+use Rattle.bw_journal.proofs.LineLaws.{line_stands, torn_first}
 use Rattle.bw_journal.proofs.ReportLaws.{lines_of, first, entry_lines, reported}
+use Rattle.bw_journal.proofs.SealLaws.{sealed_first}
 
 -- the first entries
 first_ones : (existed : Bool) (s : List (Option Request)) (name : List ℕ) (n more : ℕ) (rest : List (Option Request)) →
@@ -64,8 +67,25 @@ fit-parts d s h =
     and_parts (list_all fits (take d s)) (list_all fits (drop d s))
     (sym (list_all-append fits (take d s) (drop d s)) ∙ ap (list_all fits) (take-append-drop d s) ∙ h)
 
+tail_same : {X : Type 0} {x y : X} {xs ys : List X} → x ∷ xs ≡ y ∷ ys → xs ≡ ys
+tail_same e = cc
+
+-- whose lines are read is there
+entries_stand : (es : List JournalEntry) (bytes : List ℕ) → journal_lines bytes ≡ lines_of es →
+    (rest : List ℕ) × (bytes ≡ sealed_entries es ++ rest)
+entries_stand [] bytes e = (bytes, refl)
+entries_stand (x ∷ es) bytes e =
+    let found = line_stands [] bytes (entry_line x) (lines_of es) e in
+    let is : bytes ≡ sealed_entry x ++ found.0 = found.1 ∙ sym (append_assoc (entry_line x) (2 ∷ []) found.0) in
+    let further : journal_lines found.0 ≡ lines_of es =
+    tail_same (sym (sealed_first (content x) found.0) ∙ ap (λ (b : List ℕ). journal_lines b) (sym is) ∙ e) in
+    let below = entries_stand es found.0 further in (
+      below.0,
+      is ∙ ap (λ (b : List ℕ). sealed_entry x ++ b) below.1 ∙ sym (append_assoc (sealed_entry x) (sealed_entries es) below.0),
+    )
+
 pub entries_survive : EntriesSurvive
-entries_survive h name log kept tail small whole low torn = (most, fits_in, all)
+entries_survive h name log kept tail small whole low torn = (most, fits_in, all, begins)
   where
     done : List (Option Request)
     done = take log.done log.admitted
@@ -108,14 +128,33 @@ entries_survive h name log kept tail small whole low torn = (most, fits_in, all)
     up : take (kept + most) done ≡ take (kept + most) log.admitted
     up = take-take (kept + most) log.done log.admitted fits_in
 
+    firsts : first h name log kept ++ take most next ≡ first h name log (kept + most)
+    firsts =
+        ap (λ (x : List (Option Request)). entries_from h.existed log.admitted name 0 x ++ take most next)
+        (sym (take-take kept log.done log.admitted low))
+        ∙ same
+        ∙ ap (λ (x : List (Option Request)). entries_from h.existed log.admitted name 0 x) up
+
     all : replay h.limit name (journal_of h name (up_to kept log) ++ tail) ≡ Ok (story_of_log h name (up_to (kept + most) log))
     all =
         reported h name log kept (kept + most) tail small
         (ap (list_all fits) (sym up) ∙ (fit-parts (kept + most) done whole.each).0)
         (ap (λ (ls : List (List ℕ)). lines_of (first h name log kept) ++ ls) read
         ∙ sym (map-append entry_line (first h name log kept) (take most next))
-        ∙ ap (λ (es : List JournalEntry). lines_of es) (
-        ap (λ (x : List (Option Request)). entries_from h.existed log.admitted name 0 x ++ take most next)
-        (sym (take-take kept log.done log.admitted low))
-        ∙ same
-        ∙ ap (λ (x : List (Option Request)). entries_from h.existed log.admitted name 0 x) up))
+        ∙ ap (λ (es : List JournalEntry). lines_of es) firsts)
+
+    begins : (rest : List ℕ) × (journal_of h name (up_to kept log) ++ tail ≡ journal_of h name (up_to (kept + most) log) ++ rest)
+    begins =
+        let s = entries_stand (take most next) tail read in
+        let start = header_bytes name h in
+        let bytes_of : ℕ → List ℕ = λ d. sealed_entries (first h name log d) in
+        let joined : bytes_of kept ++ sealed_entries (take most next) ≡ bytes_of (kept + most) =
+        sym (flat_map-append sealed_entry (first h name log kept) (take most next))
+        ∙ ap (λ (es : List JournalEntry). sealed_entries es) firsts in (
+          s.0,
+          ap (λ (b : List ℕ). (start ++ bytes_of kept) ++ b) s.1
+              ∙ append_assoc start (bytes_of kept) (sealed_entries (take most next) ++ s.0)
+              ∙ ap (λ (b : List ℕ). start ++ b) (sym (append_assoc (bytes_of kept) (sealed_entries (take most next)) s.0)
+              ∙ ap (λ (b : List ℕ). b ++ s.0) joined)
+              ∙ sym (append_assoc start (bytes_of (kept + most)) s.0),
+        )

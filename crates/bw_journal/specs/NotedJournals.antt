@@ -136,7 +136,7 @@ abbrev pub up_to : ℕ → Log → Log
 up_to kept log = record { admitted = log.admitted; done = kept }
 
 -- Whatever bytes are zero, or missing at the end, of the entries after the first ones: the journal
--- says what the server kept of these and of some of the next.
+-- says what the server kept of these and of some of the next, and begins with the journal of those.
 abbrev pub EntriesSurvive : Type 0
 EntriesSurvive = (h : Header) (name : List ℕ) (log : Log) (kept : ℕ) (tail : List ℕ) →
     IsHeader h → AdmitsDone log → kept ≤ log.done →
@@ -145,6 +145,8 @@ EntriesSurvive = (h : Header) (name : List ℕ) (log : Log) (kept : ℕ) (tail :
     (more : ℕ) × (kept + more ≤ log.done)
     × (replay h.limit name (journal_of h name (up_to kept log) ++ tail)
     ≡ Ok (story_of_log h name (up_to (kept + more) log)))
+    × ((rest : List ℕ) × (journal_of h name (up_to kept log) ++ tail
+    ≡ journal_of h name (up_to (kept + more) log) ++ rest))
 
 -- These are the journal of some first numbers, among them each whose entry ends within so many bytes,
 -- and a prefix of an entry.

@@ -31,7 +31,8 @@ pub fn law_headers()
 {}
 
 /// A journal whose last entry may have been cut says what the server kept of the done numbers; and
-/// one of whose last entries any bytes are zero or missing, what it kept of some first ones.
+/// one of whose last entries any bytes are zero or missing, what it kept of some first ones, with whose
+/// journal it begins.
 pub fn law_journals()
     ensures cut { JournalsReportLogs }
     ensures torn { EntriesSurvive }

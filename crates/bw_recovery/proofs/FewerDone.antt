@@ -153,7 +153,7 @@ left_files_are_of_fewer limit None log kept found whole fewer left =
     (made_goes_on false log.admitted kept log.done fewer) limit found _ _ (made_fields false log whole) refl refl left
 
 -- the first of the done numbers are admitted
-admits_fewer : (log : Log) (kept : ℕ) → AdmitsDone log → kept ≤ log.done → AdmitsDone (up_to kept log)
+pub admits_fewer : (log : Log) (kept : ℕ) → AdmitsDone log → kept ≤ log.done → AdmitsDone (up_to kept log)
 admits_fewer log kept whole fewer =
     let done = take log.done log.admitted in
     let same : take kept done ≡ take kept log.admitted = take-take kept log.done log.admitted fewer in

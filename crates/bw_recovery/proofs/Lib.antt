@@ -11,6 +11,7 @@ pub mod StoryForms
 pub mod PartForms
 pub mod NameStays
 pub mod FewerDone
+pub mod LostNames
 pub mod SortedNames
 pub mod CountForms
 pub mod RestoreForms

@@ -1,5 +1,5 @@
 -- Names that a stop left, and what becomes of them.
-use Rattle.std.proofs.Common.{◌≡◌, ℕ, ◌<◌, ◌^◌, inl, inr, Bool, false, cond, List, length, take, Option}
+use Rattle.std.proofs.Common.{◌≡◌, ℕ, ◌<◌, ◌^◌, inl, inr, Bool, false, cond, List, ◌++◌, length, take, Option}
 use Rattle.std.proofs.Common.{Some, None, is_some, option_map, Result, Ok, Err, refl, sym, ◌∙◌, ap, arith}
 use Rattle.std.specs.Prelude.{IfSome}
 use Rattle.std.specs.Option.{option_map_or}
@@ -12,31 +12,42 @@ use Rattle.bw_journal.proofs.ReportLaws.{journals_report_logs}
 use Rattle.bw_journal.proofs.HeaderReads.{cut_headers_are_not_begun}
 use Rattle.bw_journal.proofs.Taken.{taken-made}
 use Rattle.bw_journal.proofs.ClosedForms.{made_format}
-use Rattle.bw_recovery.specs.Left.{IsMended, wanted_file}
+use Rattle.bw_recovery.specs.Left.{IsLeftFile, IsMended, wanted_file}
 use Rattle.bw_recovery.specs.Names.{begins_take, OfFile, OfJournal, fault_beside, kept_journal}
 use Rattle.bw_recovery.specs.Names.{file_beside}
 use Rattle.bw_recovery.specs.LeftNames.{header_beside, IsLeftBegun, IsLeftTorn, IsResumed, LeftNamesAreResumed}
 use Rattle.bw_recovery.proofs.FileLemmas.{left_files_are_mended}
 use Rattle.bw_recovery.proofs.MadeLemmas.{made_fields}
 
-begun : (limit : ℕ) (first : Option (List ℕ)) (name : List ℕ) (log : Log) (journal : List ℕ) (found : Option (List ℕ)) →
-    limit < 2 ^ 32 → AdmitsDone log → IsLeftBegun limit first name log journal found →
+-- what a journal says, and how it begins
+pub resumed : (limit : ℕ) (first : Option (List ℕ)) (name : List ℕ) (log : Log) (journal tail : List ℕ)
+    (found : Option (List ℕ)) → AdmitsDone log →
+    replay limit name journal ≡ Ok (story_of_log (header_beside limit first) name log) →
+    journal ≡ journal_of (header_beside limit first) name log ++ tail →
+    IsLeftFile first (made (is_some first) log.admitted log.done) limit found →
     IsResumed limit first name log journal found
-begun limit first name log journal found small whole left =
+resumed limit first name log journal tail found whole e begins file =
     let h = header_beside limit first in
     let t = made (is_some first) log.admitted log.done in
-    let e : replay limit name journal ≡ Ok (story_of_log h name log) =
-    ap (replay limit name) left.notes ∙ journals_report_logs h name log left.tail small whole left.cut in
     let m : IsMended limit first t found =
     left_files_are_mended limit first t found (made_fields (is_some first) log whole)
-    (taken-made (is_some first) log.admitted log.done) (made_format (is_some first) log.admitted log.done) left.file in
+    (taken-made (is_some first) log.admitted log.done) (made_format (is_some first) log.admitted log.done) file in
     record {
       fault = ap (λ (r : Result Story JournalFault). fault_beside limit r found) e ∙ ap (option_map OfFile) m.fault;
       story = λ _. e;
       notes = inl (ap (λ (r : Result Story JournalFault). kept_journal r journal) e
-          ∙ ap (take (length (journal_of h name log))) left.notes ∙ take-append_seam (journal_of h name log) left.tail);
+          ∙ ap (take (length (journal_of h name log))) begins ∙ take-append_seam (journal_of h name log) tail);
       file = ap (λ (r : Result Story JournalFault). file_beside limit r found) e ∙ m.after;
     }
+
+begun : (limit : ℕ) (first : Option (List ℕ)) (name : List ℕ) (log : Log) (journal : List ℕ) (found : Option (List ℕ)) →
+    limit < 2 ^ 32 → AdmitsDone log → IsLeftBegun limit first name log journal found →
+    IsResumed limit first name log journal found
+begun limit first name log journal found small whole left =
+    resumed limit first name log journal left.tail found whole
+    (ap (replay limit name) left.notes
+    ∙ journals_report_logs (header_beside limit first) name log left.tail small whole left.cut)
+    left.notes left.file
 
 foreign_file : (found : Option (List ℕ)) → IfSome found (λ bytes. begins_take bytes ≡ false) →
     option_map_or begins_take found false ≡ false

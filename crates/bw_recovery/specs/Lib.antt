@@ -6,6 +6,7 @@ pub mod Names
 pub mod LeftNames
 pub mod StaysLeft
 pub mod FewerDone
+pub mod LostPower
 pub mod FilesRead
 pub mod Paths
 pub mod Findings

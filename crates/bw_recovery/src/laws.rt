@@ -1,7 +1,8 @@
-//! Laws of what a stop leaves. Each function's contract is one; nothing runs.
+//! Laws of what a stop or a loss of power leaves. Each function's contract is one; nothing runs.
 ghost use Rattle.bw_recovery.specs.Left.{LeftFilesAreMended};
 ghost use Rattle.bw_recovery.specs.LeftNames.{LeftNamesAreResumed};
 ghost use Rattle.bw_recovery.specs.FewerDone.{LeftFilesAreOfFewer, CutNamesAreOfFewer};
+ghost use Rattle.bw_recovery.specs.LostPower.{LostNamesGoOn};
 
 /// Nothing is wrong with a file that a stop left, and what becomes of it is the file of its take.
 pub fn law_left_files()
@@ -21,4 +22,11 @@ pub fn law_fewer_done()
     ensures files { LeftFilesAreOfFewer }
     // Each number stays done whose entry ends in the prefix.
     ensures names { CutNamesAreOfFewer }
+{}
+
+/// Nothing is wrong with a name after a loss of power, whatever it leaves of journal and file: the name
+/// goes on after the numbers whose entries were synced, or after some of the next, if the samples of all
+/// were synced before their entries were written.
+pub fn law_lost_power()
+    ensures { LostNamesGoOn }
 {}

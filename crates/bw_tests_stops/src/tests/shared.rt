@@ -42,6 +42,8 @@ impl<D: Volume> Disk for SharedDisk<D> {
 
     ghost synced = { λ _ _. None };
 
+    ghost had = { λ _ _. [] };
+
     ghost path_of = { λ _. [] };
 
     ghost failures = { λ d. d.call_counter.failures };

@@ -1,7 +1,11 @@
-use Rattle.std.proofs.Common.{rules, ◌≡◌, List, ℕ, OnErr, string_bytes, ap}
+use Rattle.std.proofs.Common.{rules, ◌≡◌, List, ℕ, OnErr, string_bytes, ap, OnOk}
 use Rattle.std.proofs.lemmas.Result.{on_err_weaker}
-use Rattle.bw_disk.specs.MemoryDisks.{content_at}
+use Rattle.bw_disk.specs.MemoryDisks.{content_at, synced_at}
 use Rattle.bw_disk.proofs.Removals.{uncut}
+use Rattle.bw_store.specs.Stores.{KeepsOthers}
+use Rattle.bw_disk.specs.Volumes.{KeepsEach, IsCutTo}
+use Rattle.bw_disk.specs.declared.memory_disk.StoredFile.{StoredFile}
+use Rattle.bw_disk.proofs.HadContents.{cut_had, others_had}
 use Rattle.bw_disk.proofs.memory_volume.MemoryDiskVolume.cut.Goals as goal
 
 pub returns-clause-failed : goal.returns-clause-failed
@@ -12,3 +16,24 @@ returns-clause-failed c =
     λ honest. on_err_weaker c.cut-answer.result
     (λ e. uncut (content_at c.args.self.now.files.items path)
     (content_at c.cut-answer.new.files.items path) c.args.len (ap (λ files. content_at files path) e)) same
+
+pub returns-clause-there : goal.returns-clause-there
+returns-clause-there c =
+    let path : List ℕ = string_bytes c.args.file.now.path in
+    let old : List StoredFile = c.args.self.now.files.items in
+    let new : List StoredFile = c.cut-answer.new.files.items in
+    let cut : OnOk c.cut-answer.result (IsCutTo (content_at old path) c.args.len (content_at new path)) = search rules in
+    let failed : OnErr c.cut-answer.result (new ≡ old) = search rules in
+    let synced : synced_at new path ≡ synced_at old path = search rules in
+    λ honest. cut_had c.cut-answer.result (content_at old path) (content_at new path) (synced_at old path)
+    (synced_at new path) c.args.len cut
+    (on_err_weaker c.cut-answer.result (λ e. ap (λ files. content_at files path) e) failed) synced
+
+pub returns-clause-had : goal.returns-clause-had
+returns-clause-had c =
+    let path : List ℕ = string_bytes c.args.file.now.path in
+    let old : List StoredFile = c.args.self.now.files.items in
+    let new : List StoredFile = c.cut-answer.new.files.items in
+    let others : KeepsOthers (content_at old) (content_at new) path = search rules in
+    let synced : KeepsEach (synced_at old) (synced_at new) = search rules in
+    λ honest. others_had path (content_at old) (content_at new) (synced_at old) (synced_at new) others synced
