@@ -5,6 +5,7 @@ pub mod JournalPaths
 pub mod Existences
 pub mod JournalNames
 pub mod SyncLaws
+pub mod HadSyncs
 pub mod PendingLaws
 pub mod PendingForms
 pub mod NoteKeeping

@@ -60,6 +60,10 @@ module _ {D F : Type 0} {G : Ghosts D F} where
   abbrev pub journal_on_disk : FolderJournal D F G → List ℕ → Option (List ℕ)
   journal_on_disk j name = notes_at (G.contents j.disk) (string_bytes j.folder) name
 
+  -- what it had since it was synced
+  abbrev pub journal_had : FolderJournal D F G → List ℕ → List (Option (List ℕ))
+  journal_had j name = G.had j.disk (journal_path (string_bytes j.folder) name)
+
   -- what is noted under a name: that, and what is pending
   abbrev pub noted_in_folder : FolderJournal D F G → List ℕ → Option (List ℕ)
   noted_in_folder j name = noted_with (unwritten_of (unwritten_in j) name) (journal_on_disk j name)

@@ -5,12 +5,19 @@ use Rattle.bw_store.specs.Stores.{KeepsOthers}
 use Rattle.bw_disk.specs.Disks.{AsksOnce}
 use Rattle.bw_disk.specs.DiskSteps.{StaysWhole}
 use Rattle.bw_disk.specs.Volumes.{KeepsEach}
+use Rattle.bw_disk.specs.PowerLosses.{HadOnlyNow}
 use Rattle.bw_disk.specs.declared.disk.Disk.{Ghosts}
 
 -- what is at a path, if anything, is synced as it is
 abbrev pub IsSyncedAt : (List ℕ → Option (List ℕ)) → (List ℕ → Option (List ℕ)) → List ℕ →
     Type 0
 IsSyncedAt contents synced path = IsSome (contents path) → synced path ≡ contents path
+
+-- a file that is at a path had only what is there, or wasn't listed
+abbrev pub HadOnlyThere : (List ℕ → Option (List ℕ)) → (List ℕ → List (Option (List ℕ))) →
+    (List ℕ → List (Option (List ℕ))) → List ℕ → Type 0
+HadOnlyThere contents before after path =
+    IsSome (contents path) → HadOnlyNow (contents path) (before path) (after path)
 
 -- what is synced as it is, and doesn't change, stays synced
 abbrev pub KeepsSynced : (List ℕ → Option (List ℕ)) → (List ℕ → Option (List ℕ)) →

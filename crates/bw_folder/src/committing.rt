@@ -1,6 +1,7 @@
 //! Commits: what is pending of names is written to their journals, and synced.
-ghost use Rattle.std.specs.Prelude.{◌≡◌, OnOk, false};
+ghost use Rattle.std.specs.Prelude.{◌≡◌, OnOk, false, IsTrue};
 ghost use Rattle.bw_store.specs.Stores.{Counts};
+ghost use Rattle.bw_disk.specs.PowerLosses.{HadOnlyNow};
 ghost use Rattle.bw_disk.specs.ReadFaults.{is_disk_fault};
 ghost use Rattle.bw_folder.specs.Commits.{CommitsNotes, IsAllCommitted};
 
@@ -13,6 +14,7 @@ use bw_model::Name;
 
 impl<D: Volume> FolderJournal<D> {
     ghost use Rattle.bw_folder.specs.JournalFolders.{journals_disk, has_pending, unwritten_in};
+    ghost use Rattle.bw_folder.specs.JournalFolders.{journal_on_disk, journal_had};
     ghost use Rattle.bw_folder.specs.PendingNotes.{awaits_in};
 
     /// Commits what is pending of all names, one after the other: after it all that is noted is in the
@@ -53,6 +55,12 @@ impl<D: Volume> FolderJournal<D> {
     pub fn commit_name(&mut self, name: &Name) -> Result<(), ReadFault>
         ensures commits { CommitsNotes result self.old self.new }
         ensures whole { OnOk result (has_pending self.new name.now ≡ false) }
+        // Of a journal to which notes were written a loss of power leaves what it has now, or nothing if the
+        // folder may not list it.
+        ensures had { IsTrue (D.honest (journals_disk self.old)) →
+            IsTrue (has_pending self.old name.now) → OnOk result
+            (HadOnlyNow (journal_on_disk self.new name.now)
+            (journal_had self.old name.now) (journal_had self.new name.now)) }
         ensures disk_failures { Counts (D.failures (journals_disk self.old))
             (D.failures (journals_disk self.new)) (is_disk_fault result) }
     {

@@ -5,8 +5,9 @@ ghost use Rattle.bw_store.specs.Stores.{Counts, Written, KeepsOthers};
 ghost use Rattle.bw_disk.specs.Disks.{Syncs};
 ghost use Rattle.bw_disk.specs.DiskSteps.{StaysWhole};
 ghost use Rattle.bw_disk.specs.Volumes.{WrittenInPart, KeepsEach};
+ghost use Rattle.bw_disk.specs.PowerLosses.{HadNoMore, HadNoMoreBut, HadNowToo, HadOnlyNow};
 ghost use Rattle.bw_folder.specs.PendingNotes.{unwritten_at};
-ghost use Rattle.bw_folder.specs.SyncOrders.{IsSyncedAt, KeepsSynced, SyncsInOrder};
+ghost use Rattle.bw_folder.specs.SyncOrders.{IsSyncedAt, KeepsSynced, SyncsInOrder, HadOnlyThere};
 
 use crate::journal::OpenJournal;
 use bw_disk::Volume;
@@ -43,6 +44,15 @@ pub(crate) fn append_synced<D: Volume>(
         (D.contents disk.new (D.path_of journal.old.file))) }
     ensures others { IsTrue (D.honest disk.old) → KeepsOthers
         (D.contents disk.old) (D.contents disk.new) (D.path_of journal.old.file) }
+    // No file but the journal had more; on success it had only what it has now.
+    ensures had { IsTrue (D.honest disk.old) →
+        HadNoMoreBut (D.path_of journal.old.file) (D.had disk.old) (D.had disk.new) }
+    ensures there { IsTrue (D.honest disk.old) → HadNowToo
+        (D.contents disk.new (D.path_of journal.old.file))
+        (D.had disk.old (D.path_of journal.old.file)) (D.had disk.new (D.path_of journal.old.file)) }
+    ensures only { IsTrue (D.honest disk.old) → OnOk result
+        (HadOnlyNow (D.contents disk.new (D.path_of journal.old.file))
+        (D.had disk.old (D.path_of journal.old.file)) (D.had disk.new (D.path_of journal.old.file))) }
     ensures syncs { IsTrue (D.honest disk.old) → take.now ≢ D.path_of journal.old.file →
         SyncsInOrder D.Disk journal.old.writes result take.now (D.path_of journal.old.file) disk.old disk.new }
 {
@@ -80,6 +90,9 @@ fn sync_noted<D: Volume>(
     ensures contents { IsTrue (D.honest disk.old) → KeepsEach (D.contents disk.old) (D.contents disk.new) }
     ensures synced { IsTrue (D.honest disk.old) → IsTrue journal.old.writes → OnOk result
         (IsSyncedAt (D.contents disk.old) (D.synced disk.new) take.now) }
+    ensures had { IsTrue (D.honest disk.old) → HadNoMore (D.had disk.old) (D.had disk.new) }
+    ensures only { IsTrue (D.honest disk.old) → IsTrue journal.old.writes → OnOk result
+        (HadOnlyThere (D.contents disk.old) (D.had disk.old) (D.had disk.new) take.now) }
     ensures stays { IsTrue (D.honest disk.old) → KeepsSynced
         (D.contents disk.old) (D.synced disk.old) (D.contents disk.new) (D.synced disk.new) }
 {
@@ -172,6 +185,9 @@ fn sync_take<D: Volume>(
     ensures contents { IsTrue (D.honest disk.old) → KeepsEach (D.contents disk.old) (D.contents disk.new) }
     ensures synced { IsTrue (D.honest disk.old) → OnOk result
         (IsSyncedAt (D.contents disk.old) (D.synced disk.new) take.now) }
+    ensures had { IsTrue (D.honest disk.old) → HadNoMore (D.had disk.old) (D.had disk.new) }
+    ensures only { IsTrue (D.honest disk.old) → OnOk result
+        (HadOnlyThere (D.contents disk.old) (D.had disk.old) (D.had disk.new) take.now) }
     ensures stays { IsTrue (D.honest disk.old) → KeepsSynced
         (D.contents disk.old) (D.synced disk.old) (D.contents disk.new) (D.synced disk.new) }
 {
@@ -200,6 +216,10 @@ fn sync_file<D: Volume>(
     ensures failures { Counts (D.failures disk.old) (D.failures disk.new) (is_err result) }
     ensures honest { D.honest disk.new ≡ D.honest disk.old }
     ensures contents { IsTrue (D.honest disk.old) → KeepsEach (D.contents disk.old) (D.contents disk.new) }
+    ensures had { IsTrue (D.honest disk.old) → HadNoMore (D.had disk.old) (D.had disk.new) }
+    ensures only { IsTrue (D.honest disk.old) → OnOk result
+        (HadOnlyNow (D.contents disk.old (D.path_of file.now))
+        (D.had disk.old (D.path_of file.now)) (D.had disk.new (D.path_of file.now))) }
     ensures synced { IsTrue (D.honest disk.old) → Syncs result
         (D.contents disk.old (D.path_of file.now)) (D.synced disk.old) (D.synced disk.new)
         (D.path_of file.now) }
@@ -229,6 +249,7 @@ fn sync_names<D: Volume>(
     ensures listed { OnOk result (journal.new.listed ≡ true) }
     ensures unmarked { OnOk result (failed_sync.new ≡ failed_sync.old) }
     ensures failures { Counts (D.failures disk.old) (D.failures disk.new) (is_err result) }
+    ensures had { IsTrue (D.honest disk.old) → HadNoMore (D.had disk.old) (D.had disk.new) }
     ensures rest { StaysWhole D.Disk disk.old disk.new }
 {
     if journal.listed {

@@ -6,6 +6,7 @@ use Rattle.std.specs.Str.{bytes_eq}
 use Rattle.bw_model.proofs.BookLemmas.{name_refl}
 use Rattle.bw_store.specs.Stores.{Written, KeepsOthers}
 use Rattle.bw_disk.specs.Volumes.{WrittenInPart}
+use Rattle.bw_disk.specs.PowerLosses.{HadOnlyNow}
 use Rattle.bw_folder.specs.declared.journal.OpenJournal.{OpenJournal}
 use Rattle.bw_folder.specs.Folders.{take_path}
 use Rattle.bw_folder.specs.Journals.{journal_path, notes_at, existences}
@@ -184,3 +185,20 @@ returns-clause-whole g c =
     ∙ ap (λ (b : Bool). waits (cond b (unwritten_at later) (unwritten_of (pendings items) name)).bytes) (name_refl name)
     ∙ ap waits none)
     call.ensures.emptied
+
+pub returns-clause-had : goal.returns-clause-had
+returns-clause-had g c = λ h waited.
+    let self = c.args.self.now in
+    let folder : List ℕ = string_bytes self.folder in
+    let name : List ℕ = c.args.name.now in
+    let items : List (OpenJournal g.row.D-File.Denot) = self.journals.items in
+    let call = c.append_synced-answer in
+    let journal = c.index_mut.result.now in
+    let first : position (λ (x : OpenJournal g.row.D-File.Denot). bytes_eq x.name name) items ≡ Some c.in-Some.place = search rules in
+    let pl = place_of name items c.in-Some.place journal c.index_mut.ensures.value first in
+    let path : g.D.Disk.path_of journal.file ≡ journal_path folder name =
+    path_there g.D.Disk folder name items c.in-Some.place journal pl (self.paths h) in
+    on_ok_too call.result c.map_err.result (λ ok. search rules)
+    (λ only. subst (λ (q : List ℕ). HadOnlyNow (g.D.Disk.contents call.new.disk q) (g.D.Disk.had self.disk q)
+    (g.D.Disk.had call.new.disk q)) path only)
+    (call.ensures.only h)
