@@ -1,0 +1,201 @@
+-- What a bounded server answers, after a commit and over a run.
+use Rattle.std.proofs.Common.{◌≡◌, ◌∙◌, ◌⊎◌, inl, inr, ℕ, ◌≤◌, ◌<◌, ◌+◌, Bool, true, false, Option, Some, None, List, [], ◌∷◌}
+use Rattle.std.proofs.Common.{ap, arith, refl, subst, sym}
+use Rattle.std.specs.Prelude.{max, nat_le}
+use Rattle.std.proofs.lemmas.Bool.{leb-false}
+use Rattle.bw_model.specs.Book.{Book}
+use Rattle.bw_model.specs.Wire.{Frame, Message, Says, Asks, Bye}
+use Rattle.bw_model.specs.Replies.{Reply}
+use Rattle.bw_exchange.specs.AnsweredFrames.{Answered, AnswersAll}
+use Rattle.bw_serve.specs.Guards.{Rests}
+use Rattle.bw_bounded.specs.BoundedServers.{inner_server, bound_on, takes_counted}
+use Rattle.bw_bounded.specs.BoundedAnswers.{is_next_reply, takes_with, TurnsAway, PassesOn, BeginsTake, Decides, AnswersFound}
+use Rattle.bw_bounded.specs.BoundedAnswers.{LooksUp, AnswersUnknown, AnswersKnown, AnswersUnder, AnswersWithin}
+use Rattle.bw_bounded.specs.BoundedAnswers.{AnswersBounded, BoundedRunsAreRuns}
+use Rattle.bw_bounded.specs.declared.bounding.BoundedServer.{BoundedServer}
+
+module _ {T : Type 0} (answers : T → Frame → List Reply → T → Type 0) (committed : T → Type 0) where
+  -- nothing has changed
+  pub rests_still : (t : T) → Rests answers committed t t
+  rests_still t = record { answered = λ first frame replies h. h; unchanged = λ all. refl }
+
+  pub away_still : (t t' : T) (takes takes' : ℕ) → t' ≡ t → takes' ≡ takes →
+      TurnsAway answers committed t t' takes takes'
+  away_still t t' takes takes' is same = record {
+    rests = subst (Rests answers committed t) (sym is) (rests_still t);
+    counted = same;
+  }
+
+-- After it a commit comes.
+module _ {T : Type 0} (answers : T → Frame → List Reply → T → Type 0) (committed : T → Type 0)
+    (holds : T → (List ℕ → Option (List ℕ)) → Book → Type 0) (old new : T)
+    (keeps : (first : T) (frame : Frame) (replies : List Reply) → answers first frame replies old →
+    answers first frame replies new) (idle : committed old → new ≡ old) where
+  rests_on : (t : T) → Rests answers committed t old → Rests answers committed t new
+  rests_on t r = record {
+    answered = λ first frame replies h. keeps first frame replies (r.answered first frame replies h);
+    unchanged = λ all. let is = r.unchanged all in idle (subst committed (sym is) all) ∙ is;
+  }
+
+  away_on : (t : T) (takes takes' : ℕ) → TurnsAway answers committed t old takes takes' →
+      TurnsAway answers committed t new takes takes'
+  away_on t takes takes' h = record { rests = rests_on t h.rests; counted = h.counted }
+
+  passes_on : (t : T) (m : Message) (replies : List Reply) (takes takes' : ℕ) →
+      PassesOn answers committed holds t m replies old takes takes' →
+      PassesOn answers committed holds t m replies new takes takes'
+  passes_on t m replies takes takes' h =
+      record { answered = keeps t (Says m) replies h.answered; counted = h.counted }
+
+  begins_on : (t : T) (m : Message) (replies : List Reply) (takes takes' : ℕ) →
+      BeginsTake answers committed holds t m replies old takes takes' →
+      BeginsTake answers committed holds t m replies new takes takes'
+  begins_on t m replies takes takes' h = record {
+    after = h.after;
+    answered = h.answered;
+    rests = rests_on h.after h.rests;
+    known = h.known;
+    knows = h.knows;
+    counted = h.counted;
+  }
+
+  decides_on : (known next full : Bool) (t : T) (m : Message) (reply : Reply) (replies : List Reply) (takes takes' : ℕ) →
+      Decides answers committed holds known next full t m reply replies old takes takes' →
+      Decides answers committed holds known next full t m reply replies new takes takes'
+  decides_on true next full t m reply replies takes takes' h = passes_on t m replies takes takes' h
+  decides_on false false full t m reply replies takes takes' h = (h.0, away_on t takes takes' h.1)
+  decides_on false true true t m reply replies takes takes' h = (h.0, away_on t takes takes' h.1)
+  decides_on false true false t m reply replies takes takes' h = begins_on t m replies takes takes' h
+
+  found_on : (most : ℕ) (t : T) (m : Message) (reply : Reply) (replies : List Reply) (takes takes' : ℕ) →
+      AnswersFound answers committed holds most t m reply replies old takes takes' →
+      AnswersFound answers committed holds most t m reply replies new takes takes'
+  found_on most t m reply replies takes takes' h = record {
+    known = h.known;
+    knows = h.knows;
+    decided = decides_on h.known (is_next_reply reply) (nat_le most takes) t m reply replies takes takes' h.decided;
+  }
+
+  unknown_on : (most : ℕ) (t : T) (m : Message) (replies : List Reply) (takes takes' : ℕ) →
+      AnswersUnknown answers committed holds most t m replies old takes takes' →
+      AnswersUnknown answers committed holds most t m replies new takes takes'
+  unknown_on most t m replies takes takes' (inl h) = inl (record {
+    reply = h.reply;
+    mid = h.mid;
+    asked = h.asked;
+    found = found_on most h.mid m h.reply replies takes takes' h.found;
+  })
+  unknown_on most t m replies takes takes' (inr h) = inr (h.0, away_on t takes takes' h.1)
+
+  known_on : (known : Bool) (most : ℕ) (t : T) (m : Message) (replies : List Reply) (takes takes' : ℕ) →
+      AnswersKnown answers committed holds known most t m replies old takes takes' →
+      AnswersKnown answers committed holds known most t m replies new takes takes'
+  known_on true most t m replies takes takes' h = passes_on t m replies takes takes' h
+  known_on false most t m replies takes takes' h = unknown_on most t m replies takes takes' h
+
+  under_on : (most : ℕ) (t : T) (m : Message) (replies : List Reply) (takes takes' : ℕ) →
+      AnswersUnder answers committed holds most t m replies old takes takes' →
+      AnswersUnder answers committed holds most t m replies new takes takes'
+  under_on most t m replies takes takes' h = record {
+    known = h.known;
+    knows = h.knows;
+    answered = known_on h.known most t m replies takes takes' h.answered;
+  }
+
+  within_on : (most : Option ℕ) (t : T) (frame : Frame) (replies : List Reply) (takes takes' : ℕ) →
+      AnswersWithin answers committed holds most t frame replies old takes takes' →
+      AnswersWithin answers committed holds most t frame replies new takes takes'
+  within_on (Some most) t (Says m) replies takes takes' h = under_on most t m replies takes takes' h
+  within_on (Some most) t (Asks name number) replies takes takes' h =
+      (keeps t (Asks name number) replies h.0, h.1)
+  within_on (Some most) t Bye replies takes takes' h = (keeps t Bye replies h.0, h.1)
+  within_on None t frame replies takes takes' h = (keeps t frame replies h.0, h.1)
+
+  -- what led to the state before the commit led to that after it
+  pub bounded_on : (first b b' : BoundedServer T) (frame : Frame) (replies : List Reply) →
+      inner_server b ≡ old → inner_server b' ≡ new → bound_on b' ≡ bound_on b → takes_counted b' ≡ takes_counted b →
+      AnswersBounded answers committed holds first frame replies b →
+      AnswersBounded answers committed holds first frame replies b'
+  bounded_on first b b' frame replies was is bound counted h = record {
+    answered = subst (λ (n : ℕ). AnswersWithin answers committed holds (bound_on first) (inner_server first) frame
+        replies (inner_server b') (takes_counted first) n) (sym counted)
+        (subst (λ (t : T). AnswersWithin answers committed holds (bound_on first) (inner_server first) frame
+        replies t (takes_counted first) (takes_counted b)) (sym is)
+        (within_on (bound_on first) (inner_server first) frame replies (takes_counted first) (takes_counted b)
+        (subst (λ (t : T). AnswersWithin answers committed holds (bound_on first) (inner_server first) frame
+        replies t (takes_counted first) (takes_counted b)) was h.answered)));
+    bound = bound ∙ h.bound;
+  }
+
+-- Over a run.
+module _ {T : Type 0} (answers : T → Frame → List Reply → T → Type 0) (committed : T → Type 0)
+    (holds : T → (List ℕ → Option (List ℕ)) → Book → Type 0) where
+  same_count : (takes takes' most : ℕ) → takes' ≡ takes → takes' ≤ max takes most
+  same_count takes takes' most same = omega (arith, same)
+
+  begun_count : (known : Bool) (takes takes' most : ℕ) → nat_le most takes ≡ false →
+      takes' ≡ takes_with known takes → takes' ≤ max takes most
+  begun_count true takes takes' most low is = let below : takes < most = leb-false most takes low in omega (arith, below, is)
+  begun_count false takes takes' most low is = omega (arith, is)
+
+  decided_count : (known next full : Bool) (most : ℕ) (t : T) (m : Message) (reply : Reply) (replies : List Reply) (t' : T)
+      (takes takes' : ℕ) → nat_le most takes ≡ full →
+      Decides answers committed holds known next full t m reply replies t' takes takes' → takes' ≤ max takes most
+  decided_count true next full most t m reply replies t' takes takes' e h = same_count takes takes' most h.counted
+  decided_count false false full most t m reply replies t' takes takes' e h =
+      same_count takes takes' most h.1.counted
+  decided_count false true true most t m reply replies t' takes takes' e h =
+      same_count takes takes' most h.1.counted
+  decided_count false true false most t m reply replies t' takes takes' e h =
+      begun_count h.known takes takes' most e h.counted
+
+  unknown_count : (most : ℕ) (t : T) (m : Message) (replies : List Reply) (t' : T) (takes takes' : ℕ) →
+      AnswersUnknown answers committed holds most t m replies t' takes takes' → takes' ≤ max takes most
+  unknown_count most t m replies t' takes takes' (inl h) =
+      decided_count h.found.known (is_next_reply h.reply) (nat_le most takes) most h.mid m h.reply replies t' takes
+      takes' refl h.found.decided
+  unknown_count most t m replies t' takes takes' (inr h) = same_count takes takes' most h.1.counted
+
+  known_count : (known : Bool) (most : ℕ) (t : T) (m : Message) (replies : List Reply) (t' : T) (takes takes' : ℕ) →
+      AnswersKnown answers committed holds known most t m replies t' takes takes' → takes' ≤ max takes most
+  known_count true most t m replies t' takes takes' h = same_count takes takes' most h.counted
+  known_count false most t m replies t' takes takes' h = unknown_count most t m replies t' takes takes' h
+
+  within_count : (bound : Option ℕ) (most : ℕ) (t : T) (frame : Frame) (replies : List Reply) (t' : T)
+      (takes takes' : ℕ) → bound ≡ Some most →
+      AnswersWithin answers committed holds bound t frame replies t' takes takes' → takes' ≤ max takes most
+  within_count None most t frame replies t' takes takes' e h = absurd cc
+  within_count (Some n) most t (Says m) replies t' takes takes' e h =
+      let same : n ≡ most = cc in
+      subst (λ (k : ℕ). takes' ≤ max takes k) same (known_count h.known n t m replies t' takes takes' h.answered)
+  within_count (Some n) most t (Asks name number) replies t' takes takes' e h = same_count takes takes' most h.1
+  within_count (Some n) most t Bye replies t' takes takes' e h = same_count takes takes' most h.1
+
+  passed_alone : (bound : Option ℕ) (t : T) (frame : Frame) (replies : List Reply) (t' : T) (takes takes' : ℕ) →
+      bound ≡ None → AnswersWithin answers committed holds bound t frame replies t' takes takes' →
+      answers t frame replies t'
+  passed_alone None t frame replies t' takes takes' e h = h.0
+  passed_alone (Some n) t frame replies t' takes takes' e h = absurd cc
+
+  unbounded_runs : (b : BoundedServer T) (xs : List Answered) (b' : BoundedServer T) → bound_on b ≡ None →
+      AnswersAll (AnswersBounded answers committed holds) b xs b' →
+      AnswersAll answers (inner_server b) xs (inner_server b')
+  unbounded_runs b [] b' none h = ap inner_server h
+  unbounded_runs b (a ∷ xs) b' none h = (
+    inner_server h.0,
+    passed_alone (bound_on b) (inner_server b) a.frame a.replies (inner_server h.0) (takes_counted b)
+        (takes_counted h.0) none h.1.answered,
+    unbounded_runs h.0 xs b' (h.1.bound ∙ none) h.2,
+  )
+
+  bounded_runs : (most : ℕ) (b : BoundedServer T) (xs : List Answered) (b' : BoundedServer T) → bound_on b ≡ Some most →
+      AnswersAll (AnswersBounded answers committed holds) b xs b' → takes_counted b' ≤ max (takes_counted b) most
+  bounded_runs most b [] b' some h = same_count (takes_counted b) (takes_counted b') most (ap takes_counted h)
+  bounded_runs most b (a ∷ xs) b' some h =
+      let one = within_count (bound_on b) most (inner_server b) a.frame a.replies (inner_server h.0) (takes_counted b)
+      (takes_counted h.0) some h.1.answered in
+      let more = bounded_runs most h.0 xs b' (h.1.bound ∙ some) h.2 in
+      omega (arith, one, more)
+
+  pub bounded_runs_are_runs : BoundedRunsAreRuns answers committed holds
+  bounded_runs_are_runs = record { unbounded = unbounded_runs; bounded = bounded_runs }

@@ -1,0 +1,2 @@
+pub mod BoundedAnswers
+pub mod BoundedServers
