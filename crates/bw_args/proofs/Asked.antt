@@ -276,7 +276,8 @@ wished_good name options wish asked = go wish asked
         also (server.limit, a.1.limited) also (a.1.serves.timeout, a.1.serves.waits)
         also (a.1.serves.most, a.1.serves.serves) also (a.1.serves.idle, a.1.serves.idles)
         also (server.recorders, a.1.serves) also (server.end, a.1.ends) also (server.journal, a.1.journals)
-        also (server.rest, a.1.rests) also (server.status, a.1.shows) also (server.log, a.1.reports) also tt)
+        also (server.rest, a.1.rests) also (server.status, a.1.shows) also (server.log, a.1.reports)
+        also (server.max_takes, a.1.bounds) also tt)
     go (Sending sender) a =
         let parts = unmixed_parts (given_on_line options) a.1.unmixed in
         let paceless = no_pace (given_on_line options) a.1.lines parts.1 in
@@ -1058,6 +1059,7 @@ line_limit (Some command) (Run (Serve server)) asked = (
   given_way _ _ _ server.recorders (given_count _ _ _ asked.1.serves.waits) (given_count _ _ _ asked.1.serves.serves)
       (given_count _ _ _ asked.1.serves.idles) asked.1.serves.is,
   given_status _ _ _ server.status asked.1.shows,
+  given_count _ _ server.max_takes asked.1.bounds,
 )
 line_limit (Some command) (Run (Send sender)) asked = (
   given_port _ _ sender.connect asked.1.connects,

@@ -8,7 +8,7 @@ use Rattle.clap.specs.Words.{Text}
 use Rattle.clap.proofs.OnLiterals.{clap_on_literals}
 use Rattle.bw_args.specs.Addresses.{IsAddress}
 use Rattle.bw_args.specs.Numbers.{IsCountText, IsLimitText, default_idle, default_limit, most_exchanges, most_recorders}
-use Rattle.bw_args.specs.Numbers.{most_rounds, most_seconds}
+use Rattle.bw_args.specs.Numbers.{most_rounds, most_seconds, most_takes_asked}
 use Rattle.bw_args.specs.Numbers.{number_written}
 use Rattle.bw_args.specs.ReadWords.{as_read}
 use Rattle.bw_args.specs.Lines.{GivesCount, GivesLog, GivesRecorders, GivesStatus, IsEnd, IsLineOf, IsName, IsRecordersGiven}
@@ -20,7 +20,7 @@ use Rattle.bw_args.proofs.Asked.{bad, ◌and_then◌}
 use Rattle.bw_args.proofs.ValueLemmas.{IsBadAt, LacksSender, LacksServer, nothing, reported}
 use Rattle.bw_args.specs.declared.bad_value.BadValue.TheVariants.{Name, Limit, Listen, Folder, Exchanges, Timeout}
 use Rattle.bw_args.specs.declared.bad_value.BadValue.TheVariants.{Recorders, Idle, Wait}
-use Rattle.bw_args.specs.declared.bad_value.BadValue.TheVariants.{UntilStopped, Sync, Rest, Status, Log, Connect, Rounds}
+use Rattle.bw_args.specs.declared.bad_value.BadValue.TheVariants.{UntilStopped, Sync, Rest, Status, Log, MaxTakes, Connect, Rounds}
 use Rattle.bw_args.specs.declared.peers.End.TheVariants as when
 use Rattle.bw_args.specs.declared.peers.Recorders.{Recorders as Way}
 use Rattle.bw_args.specs.declared.peers.Logging.{Logging}
@@ -191,6 +191,17 @@ log text lines json program listen folder address at full = (
       and_then (None, refl) and_then bad (λ good. no_log text good.0 lines json good.1),
 )
 
+max_takes : (count : Text) → ¬ IsCountText most_takes_asked count
+    → LacksServer ((codes "--max-takes=" ++ count) ∷ []) MaxTakes
+unfolding clap_on_literals
+max_takes count none program listen folder address at full = (
+  refl,
+  (address, at) and_then (folder, (full, refl)) and_then nothing and_then (default_limit, refl) and_then nothing
+      and_then nothing and_then nothing and_then (InTurn None, serves_by None None None _ refl refl refl refl)
+      and_then (when.Exchanges 1, (None, refl, refl)) and_then (Without, refl) and_then (false, refl)
+      and_then (None, refl) and_then (None, refl) and_then bad (λ good. none good.1.0),
+)
+
 connect : (program address name : Text) → ((a : SocketAddr) → ¬ IsAddress false address a)
     → IsBadAt (as_read (sending program address name [])) Connect
 unfolding clap_on_literals
@@ -237,6 +248,7 @@ refuses_peers words line is = record {
   status = λ k t given none p l f a at full e. reported words _ line Status is e
       (status k t given none p l f a at full);
   log = λ t lines json p l f a at full e. reported words _ line Log is e (log t lines json p l f a at full);
+  max_takes = λ n none p l f a at full e. reported words _ line MaxTakes is e (max_takes n none p l f a at full);
   connect = λ p c n none e. reported words _ line Connect is e (connect p c n none);
   connect_far = λ p c n none e. reported words _ line Connect is e (connect_far p c n none);
   name = λ p c n a at none e. reported words _ line Name is e (name p c n a at none);

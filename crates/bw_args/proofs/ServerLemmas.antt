@@ -13,7 +13,7 @@ use Rattle.clap.proofs.OnLiterals.{clap_on_literals}
 use Rattle.bw_args.specs.Addresses.{IsAddress, local}
 use Rattle.bw_args.specs.Commands.{command_line}
 use Rattle.bw_args.specs.Numbers.{IsCountText, IsLimitText, IsNumber, default_idle, most_exchanges}
-use Rattle.bw_args.specs.Numbers.{most_recorders, most_seconds}
+use Rattle.bw_args.specs.Numbers.{most_recorders, most_seconds, most_takes_asked}
 use Rattle.bw_args.specs.Numbers.{number_written}
 use Rattle.bw_args.specs.ReadWords.{as_read}
 use Rattle.bw_args.specs.Lines.{AsksFor, GivesAddress, GivesCount, GivesEnd, GivesFolder, GivesLimit, GivesRecorders, GivesStatus}
@@ -56,8 +56,9 @@ server_by : {given : Text → Option Text} {server : Service} → GivesEnd (give
     → server.allow ≡ given (codes "allow")
     → GivesStatus (is_set (given (codes "network"))) (given (codes "status")) (is_some (given (codes "recorders")))
     server.status
+    → GivesCount most_takes_asked (given (codes "max-takes")) server.max_takes
     → GivesServer given server
-server_by ends limited serves listens keeps reports journals rests names allows shows = record {
+server_by ends limited serves listens keeps reports journals rests names allows shows bounds = record {
   listens = listens;
   keeps = keeps;
   ends = ends;
@@ -69,6 +70,7 @@ server_by ends limited serves listens keeps reports journals rests names allows 
   names = names;
   allows = allows;
   shows = shows;
+  bounds = bounds;
 }
 
 -- these further words ask for this server
@@ -83,7 +85,7 @@ alone program listen folder address at full =
     asks refl (
       refl,
       server_by (None, refl, refl) refl (serves_by None None None _ refl refl refl refl) at
-          (full, refl) refl refl refl refl refl refl,
+          (full, refl) refl refl refl refl refl refl refl,
     )
 
 network : AsksServer true (codes "--network" ∷ []) plain_server
@@ -92,7 +94,7 @@ network program listen folder address at full =
     asks refl (
       refl,
       server_by (None, refl, refl) refl (serves_by None None None _ refl refl refl refl) at
-          (full, refl) refl refl refl refl refl refl,
+          (full, refl) refl refl refl refl refl refl refl,
     )
 
 exchanges : (count : Text) → IsCountText most_exchanges count
@@ -103,7 +105,7 @@ exchanges count is program listen folder address at full =
     asks refl (
       refl,
       server_by (Some (number_written count), (is, refl), refl) refl
-          (serves_by None None None _ refl refl refl refl) at (full, refl) refl refl refl refl refl refl,
+          (serves_by None None None _ refl refl refl refl) at (full, refl) refl refl refl refl refl refl refl,
     )
 
 limit : (text : Text) → IsLimitText text
@@ -114,7 +116,7 @@ limit text is program listen folder address at full =
     asks refl (
       refl,
       server_by (None, refl, refl) (is, refl) (serves_by None None None _ refl refl refl refl) at
-          (full, refl) refl refl refl refl refl refl,
+          (full, refl) refl refl refl refl refl refl refl,
     )
 
 timeout : (seconds : Text) → IsCountText most_seconds seconds
@@ -125,7 +127,7 @@ timeout seconds is program listen folder address at full =
     asks refl (
       refl,
       server_by (None, refl, refl) refl
-          (serves_by (Some (number_written seconds)) None None _ (is, refl) refl refl refl) at (full, refl) refl refl refl refl refl refl,
+          (serves_by (Some (number_written seconds)) None None _ (is, refl) refl refl refl) at (full, refl) refl refl refl refl refl refl refl,
     )
 
 recorders : (count : Text) → IsCountText most_recorders count
@@ -136,7 +138,7 @@ recorders count is program listen folder address at full =
     asks refl (
       refl,
       server_by (None, refl, refl) refl
-          (serves_by None (Some (number_written count)) None _ refl (is, refl) refl refl) at (full, refl) refl refl refl refl refl refl,
+          (serves_by None (Some (number_written count)) None _ refl (is, refl) refl refl) at (full, refl) refl refl refl refl refl refl refl,
     )
 
 idle : (count seconds : Text) → IsCountText most_recorders count → IsCountText most_seconds seconds
@@ -148,7 +150,7 @@ idle count seconds is idles program listen folder address at full =
       refl,
       server_by (None, refl, refl) refl
           (serves_by None (Some (number_written count)) (Some (number_written seconds)) _ refl (is, refl) (idles, refl)
-          refl) at (full, refl) refl refl refl refl refl refl,
+          refl) at (full, refl) refl refl refl refl refl refl refl,
     )
 
 until_stopped : AsksServer false (codes "--until-stopped" ∷ [])
@@ -158,7 +160,7 @@ until_stopped program listen folder address at full =
     asks refl (
       refl,
       server_by (None, refl, refl) refl (serves_by None None None _ refl refl refl refl) at
-          (full, refl) refl refl refl refl refl refl,
+          (full, refl) refl refl refl refl refl refl refl,
     )
 
 log : AsksServer false (codes "--log" ∷ []) (λ a f. record (plain_server a f) { log = Some Lines })
@@ -167,7 +169,7 @@ log program listen folder address at full =
     asks refl (
       refl,
       server_by (None, refl, refl) refl (serves_by None None None _ refl refl refl refl) at
-          (full, refl) refl refl refl refl refl refl,
+          (full, refl) refl refl refl refl refl refl refl,
     )
 
 log_json : AsksServer false (codes "--log=json" ∷ []) (λ a f. record (plain_server a f) { log = Some Json })
@@ -176,7 +178,7 @@ log_json program listen folder address at full =
     asks refl (
       refl,
       server_by (None, refl, refl) refl (serves_by None None None _ refl refl refl refl) at
-          (full, refl) refl refl refl refl refl refl,
+          (full, refl) refl refl refl refl refl refl refl,
     )
 
 log_json_apart : AsksServer false (codes "--log" ∷ codes "json" ∷ [])
@@ -186,7 +188,7 @@ log_json_apart program listen folder address at full =
     asks refl (
       refl,
       server_by (None, refl, refl) refl (serves_by None None None _ refl refl refl refl) at
-          (full, refl) refl refl refl refl refl refl,
+          (full, refl) refl refl refl refl refl refl refl,
     )
 
 one_name : AsksServer false (codes "--one-name" ∷ []) (λ a f. record (plain_server a f) { one_name = true })
@@ -195,7 +197,7 @@ one_name program listen folder address at full =
     asks refl (
       refl,
       server_by (None, refl, refl) refl (serves_by None None None _ refl refl refl refl) at
-          (full, refl) refl refl refl refl refl refl,
+          (full, refl) refl refl refl refl refl refl refl,
     )
 
 allow : (path : Text) → AsksServer false ((codes "--allow=" ++ path) ∷ [])
@@ -205,7 +207,18 @@ allow path program listen folder address at full =
     asks refl (
       refl,
       server_by (None, refl, refl) refl (serves_by None None None _ refl refl refl refl) at
-          (full, refl) refl refl refl refl refl refl,
+          (full, refl) refl refl refl refl refl refl refl,
+    )
+
+max_takes : (count : Text) → IsCountText most_takes_asked count
+    → AsksServer false ((codes "--max-takes=" ++ count) ∷ [])
+    (λ a f. record (plain_server a f) { max_takes = Some (number_written count) })
+unfolding clap_on_literals
+max_takes count is program listen folder address at full =
+    asks refl (
+      refl,
+      server_by (None, refl, refl) refl (serves_by None None None _ refl refl refl refl) at
+          (full, refl) refl refl refl refl refl refl (is, refl),
     )
 
 journal : AsksServer false (codes "--journal" ∷ []) (λ a f. record (plain_server a f) { journal = Kept })
@@ -214,7 +227,7 @@ journal program listen folder address at full =
     asks refl (
       refl,
       server_by (None, refl, refl) refl (serves_by None None None _ refl refl refl refl) at
-          (full, refl) refl refl refl refl refl refl,
+          (full, refl) refl refl refl refl refl refl refl,
     )
 
 sync : AsksServer false (codes "--journal" ∷ codes "--sync" ∷ [])
@@ -224,7 +237,7 @@ sync program listen folder address at full =
     asks refl (
       refl,
       server_by (None, refl, refl) refl (serves_by None None None _ refl refl refl refl) at
-          (full, refl) refl refl refl refl refl refl,
+          (full, refl) refl refl refl refl refl refl refl,
     )
 
 rest : AsksServer false (codes "--journal" ∷ codes "--rest" ∷ [])
@@ -234,7 +247,7 @@ rest program listen folder address at full =
     asks refl (
       refl,
       server_by (None, refl, refl) refl (serves_by None None None _ refl refl refl refl) at
-          (full, refl) refl refl refl refl refl refl,
+          (full, refl) refl refl refl refl refl refl refl,
     )
 
 rest_synced : AsksServer false (codes "--journal" ∷ codes "--sync" ∷ codes "--rest" ∷ [])
@@ -244,7 +257,7 @@ rest_synced program listen folder address at full =
     asks refl (
       refl,
       server_by (None, refl, refl) refl (serves_by None None None _ refl refl refl refl) at
-          (full, refl) refl refl refl refl refl refl,
+          (full, refl) refl refl refl refl refl refl refl,
     )
 
 -- a local address is no option
@@ -258,7 +271,7 @@ apart_near program folder address at full =
     asks refl (
       refl,
       server_by (None, refl, refl) refl (serves_by None None None _ refl refl refl refl) at
-          (full, refl) refl refl refl refl refl refl,
+          (full, refl) refl refl refl refl refl refl refl,
     )
 
 apart_asks : (program listen folder : Text) (address : SocketAddr) → IsAddress false listen address → folder ≢ []
@@ -348,7 +361,7 @@ status count text at is shows program listen folder address there full =
       refl,
       server_by (None, refl, refl) refl
           (serves_by None (Some (number_written count)) None _ refl (is, refl) refl refl) there (full, refl) refl refl
-          refl refl refl shows,
+          refl refl refl shows refl,
     )
 
 rest_shown : (count text : Text) (at : SocketAddr) → IsCountText most_recorders count → IsAddress false text at
@@ -366,7 +379,7 @@ rest_shown count text at is shows program listen folder address there full =
       refl,
       server_by (None, refl, refl) refl
           (serves_by None (Some (number_written count)) None _ refl (is, refl) refl refl) there (full, refl) refl refl
-          refl refl refl shows,
+          refl refl refl shows refl,
     )
 
 pub runs_server : (words : List Text) (line : CommandLine) → IsLineOf words line → RunsServer words line
@@ -409,4 +422,5 @@ runs_server words line is = record {
       asked_runs words _ line _ is e (rest_shown k t s given shows p l f a at full);
   one_name = λ p l f a at full e. asked_runs words _ line _ is e (one_name p l f a at full);
   allow = λ path p l f a at full e. asked_runs words _ line _ is e (allow path p l f a at full);
+  max_takes = λ n given p l f a at full e. asked_runs words _ line _ is e (max_takes n given p l f a at full);
 }

@@ -160,6 +160,7 @@ one_server given a b x y = λ i. record {
   one_name = (x.names ∙ sym y.names) i;
   allow = (x.allows ∙ sym y.allows) i;
   status = one_status _ _ _ a.status b.status x.shows y.shows i;
+  max_takes = one_count _ _ a.max_takes b.max_takes x.bounds y.bounds i;
 }
 
 one_sender : (given : Text → Option Text) (a b : Sender) → GivesSender given a → GivesSender given b → a ≡ b

@@ -6,7 +6,7 @@ use Rattle.bw_args.specs.declared.bad_value.BadValue.TheVariants.{Name, Limit, F
 use Rattle.bw_args.specs.declared.bad_value.BadValue.TheVariants.{Folder, Exchanges, Timeout}
 use Rattle.bw_args.specs.declared.bad_value.BadValue.TheVariants.{Recorders, Idle, Wait}
 use Rattle.bw_args.specs.declared.bad_value.BadValue.TheVariants.{UntilStopped, Sync, Rest, GiveUp, Connect}
-use Rattle.bw_args.specs.declared.bad_value.BadValue.TheVariants.{Watch, Verify, Status, Log}
+use Rattle.bw_args.specs.declared.bad_value.BadValue.TheVariants.{Watch, Verify, Status, Log, MaxTakes}
 use Rattle.bw_args.specs.declared.bad_value.BadValue.TheVariants.{Rounds, Fruitless, Mixed, Pcm, Skip}
 use Rattle.bw_args.specs.declared.bad_value.BadValue.TheVariants.{Block, Receipt, LeftOut}
 use Rattle.bw_args.specs.declared.bad_value.BadValue.TheVariants.{Rate, MixedSamples, Files, Inspection, Form}
@@ -39,6 +39,8 @@ fault_said Sync = codes "'--sync' is for '--journal'"
 fault_said Rest = codes "'--rest' is for '--journal'"
 fault_said Status = codes "'--status <ADDR>' is for '--recorders <N>', and takes " ++ address_wanted
 fault_said Log = codes "'--log [<FORM>]' takes 'lines' or 'json', and may stand alone"
+fault_said MaxTakes =
+    codes "'--max-takes <N>' takes a number from 1 to 1000000, in at most ten digits"
 fault_said Watch =
     codes "'--watch' can't be given beside '--check', '--json', '--digest' and '--give-up <NAME>'"
 fault_said Verify = codes "'--verify <RECEIPTS>' goes with '--folder <DIR>' alone"

@@ -100,7 +100,7 @@ serve_command = command (codes "serve") (
     option (codes "recorders") ∷ option (codes "idle") ∷ flag (codes "until-stopped") ∷
     optional (codes "log") (codes "lines") ∷ flag (codes "journal") ∷ flag (codes "sync") ∷
     flag (codes "rest") ∷ flag (codes "one-name") ∷ option (codes "allow") ∷
-    option (codes "status") ∷ [])
+    option (codes "status") ∷ option (codes "max-takes") ∷ [])
 
 abbrev pub send_command : App
 send_command = command (codes "send") (

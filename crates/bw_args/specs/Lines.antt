@@ -27,7 +27,7 @@ use Rattle.clap.specs.declared.error.ErrorKind.{ErrorKind}
 use Rattle.clap.specs.declared.error.ErrorKind.TheVariants.{MissingRequiredArgument, OutOfMemory}
 use Rattle.bw_args.specs.Numbers.{default_fruitless, default_timeout}
 use Rattle.bw_args.specs.Numbers.{most_fruitless, most_rate, most_rounds}
-use Rattle.bw_args.specs.Numbers.{most_seconds}
+use Rattle.bw_args.specs.Numbers.{most_seconds, most_takes_asked}
 use Rattle.bw_args.specs.Commands.{command_line}
 use Rattle.bw_args.specs.InspectedFiles.{GivesInspection, PlainInspection, has_option, inspection_in_plain}
 use Rattle.bw_args.specs.InspectedFiles.{is_alone, one_file}
@@ -70,6 +70,7 @@ pub record Service : Type 0 where
   pub one_name : Bool
   pub allow : Option Text
   pub status : Option SocketAddr
+  pub max_takes : Option ℕ
 
 -- how a sender tries, by the four options that say it
 pub record GivesTries (given : Text → Option Text) (tries : Tries) : Type 0 where
@@ -145,6 +146,7 @@ wish_of (Serve server) = Serving (record {
   one_name = server.one_name;
   allow = option_map string_bytes server.allow;
   status = server.status;
+  max_takes = server.max_takes;
 })
 wish_of (Send sender) = Sending sender
 wish_of (SendFile sender) = Uploading (record {
@@ -195,6 +197,7 @@ pub record GivesServer (given : Text → Option Text) (server : Service) : Type 
   pub allows : server.allow ≡ given (codes "allow")
   pub shows : GivesStatus (is_set (given (codes "network"))) (given (codes "status"))
       (is_some (given (codes "recorders"))) server.status
+  pub bounds : GivesCount most_takes_asked (given (codes "max-takes")) server.max_takes
 
 -- what is given is this sender
 pub record GivesSender (given : Text → Option Text) (sender : Sender) : Type 0 where

@@ -16,7 +16,7 @@ use Rattle.std.specs.declared.net.socket_addr.SocketAddr.{SocketAddr}
 use Rattle.clap.specs.Walk.{Text}
 use Rattle.bw_args.specs.Numbers.{most_block, most_exchanges}
 use Rattle.bw_args.specs.Numbers.{most_fruitless, most_rate, most_recorders, most_rounds}
-use Rattle.bw_args.specs.Numbers.{most_seconds}
+use Rattle.bw_args.specs.Numbers.{most_seconds, most_takes_asked}
 use Rattle.bw_args.specs.SeveralRecordings.{is_files_mixed}
 use Rattle.bw_args.specs.Sources.{has_files, is_mixed}
 use Rattle.bw_args.specs.PcmSources.{GivesFormat, GivesNumber}
@@ -29,7 +29,7 @@ use Rattle.bw_args.specs.declared.bad_value.BadValue.TheVariants.{Name, Limit, F
 use Rattle.bw_args.specs.declared.bad_value.BadValue.TheVariants.{Folder, Exchanges, Timeout}
 use Rattle.bw_args.specs.declared.bad_value.BadValue.TheVariants.{Recorders, Idle, Wait}
 use Rattle.bw_args.specs.declared.bad_value.BadValue.TheVariants.{UntilStopped, Sync, Rest, GiveUp, Connect}
-use Rattle.bw_args.specs.declared.bad_value.BadValue.TheVariants.{Watch, Verify, Receipt, Status, Log}
+use Rattle.bw_args.specs.declared.bad_value.BadValue.TheVariants.{Watch, Verify, Receipt, Status, Log, MaxTakes}
 use Rattle.bw_args.specs.declared.bad_value.BadValue.TheVariants.{Rounds, Fruitless, Rate, Mixed, Pcm, Skip}
 use Rattle.bw_args.specs.declared.bad_value.BadValue.TheVariants.{Block, LeftOut, MixedSamples, Files, Inspection, Form}
 use Rattle.bw_args.specs.declared.folders.FolderWork.{FolderWork}
@@ -63,6 +63,8 @@ IsGood Rest given = (rest : Bool)
 IsGood Status given = (status : Option SocketAddr) × GivesStatus (is_set (given (codes "network")))
     (given (codes "status")) (is_some (given (codes "recorders"))) status
 IsGood Log given = (form : Option Logging) × GivesLog (given (codes "log")) form
+IsGood MaxTakes given = (count : Option ℕ)
+    × GivesCount most_takes_asked (given (codes "max-takes")) count
 IsGood Watch given = is_watch_mixed (is_set (given (codes "watch")))
     (is_set (given (codes "check"))) (is_set (given (codes "json")))
     (is_set (given (codes "digest"))) (given (codes "give-up")) ≡ false
@@ -92,7 +94,7 @@ looked_at_waiting = Timeout ∷ Recorders ∷ Idle ∷ Wait ∷ []
 -- the values that say how a server ends, and what it does beside, in the order in which they are
 -- looked at
 abbrev pub looked_at_serving : List BadValue
-looked_at_serving = UntilStopped ∷ Sync ∷ Rest ∷ Status ∷ Log ∷ []
+looked_at_serving = UntilStopped ∷ Sync ∷ Rest ∷ Status ∷ Log ∷ MaxTakes ∷ []
 
 -- the values that say how a sender tries, in the order in which they are looked at
 abbrev pub looked_at_trying : List BadValue

@@ -51,6 +51,10 @@ default_fruitless = 10
 abbrev pub default_timeout : ℕ
 default_timeout = 30
 
+-- the most takes to which a server may be asked to limit itself
+abbrev pub most_takes_asked : ℕ
+most_takes_asked = 1000000
+
 -- the most recorders that a server may be asked to serve at once
 abbrev pub most_recorders : ℕ
 most_recorders = 256

@@ -7,7 +7,7 @@ use Rattle.clap.specs.declared.error.ErrorKind.TheVariants.{MissingRequiredArgum
 use Rattle.bw_args.specs.Addresses.{IsAddress}
 use Rattle.bw_args.specs.Numbers.{IsCountText, IsLimitText, default_idle, default_limit}
 use Rattle.bw_args.specs.Numbers.{default_rounds, most_exchanges, most_recorders, most_rounds}
-use Rattle.bw_args.specs.Numbers.{most_seconds, number_written}
+use Rattle.bw_args.specs.Numbers.{most_seconds, most_takes_asked, number_written}
 use Rattle.bw_args.specs.Lines.{IsName, Sending, Service, Serving}
 use Rattle.bw_args.specs.Forms.{IsReportedAs, RunsFor}
 use Rattle.bw_args.specs.declared.CommandLine.{CommandLine}
@@ -16,7 +16,7 @@ use Rattle.bw_args.specs.declared.bad_value.BadValue.{BadValue}
 use Rattle.bw_args.specs.declared.bad_value.BadValue.TheVariants.{Name, Limit, Listen, Folder}
 use Rattle.bw_args.specs.declared.bad_value.BadValue.TheVariants.{Exchanges, Timeout, UntilStopped}
 use Rattle.bw_args.specs.declared.bad_value.BadValue.TheVariants.{Recorders, Idle, Wait}
-use Rattle.bw_args.specs.declared.bad_value.BadValue.TheVariants.{Sync, Rest, Status, Log, Connect, Rounds}
+use Rattle.bw_args.specs.declared.bad_value.BadValue.TheVariants.{Sync, Rest, Status, Log, MaxTakes, Connect, Rounds}
 use Rattle.bw_args.specs.declared.peers.End.TheVariants as when
 use Rattle.bw_args.specs.declared.peers.Journaling.TheVariants.{Without, Kept, Synced}
 use Rattle.bw_args.specs.declared.peers.Logging.TheVariants.{Lines, Json}
@@ -37,6 +37,7 @@ plain_server address folder = record {
   one_name = false;
   allow = None;
   status = None;
+  max_takes = None;
 }
 
 -- `serve --listen=ADDR --folder=DIR`, and what follows
@@ -153,6 +154,10 @@ pub record RunsServer (words : List Text) (line : CommandLine) : Type 0 where
   -- with `--allow=FILE`
   pub allow : (path : Text) → ForServer false words ((codes "--allow=" ++ path) ∷ [])
       (AsksToServe line (λ s. record s { allow = Some path }))
+  -- with `--max-takes=N`
+  pub max_takes : (count : Text) → IsCountText most_takes_asked count
+      → ForServer false words ((codes "--max-takes=" ++ count) ∷ [])
+      (AsksToServe line (λ s. record s { max_takes = Some (number_written count) }))
 
 -- the sender of which only address and name are said
 abbrev pub plain_sender : SocketAddr → Text → Sender
@@ -259,6 +264,9 @@ pub record RefusesPeers (words : List Text) (line : CommandLine) : Type 0 where
   -- with `--log=FORM`, where FORM is another word
   pub log : (form : Text) → form ≢ codes "lines" → form ≢ codes "json"
       → ForServer false words ((codes "--log=" ++ form) ∷ []) (ReportsBad line Log)
+  -- with `--max-takes=N`
+  pub max_takes : (count : Text) → ¬ IsCountText most_takes_asked count
+      → ForServer false words ((codes "--max-takes=" ++ count) ∷ []) (ReportsBad line MaxTakes)
   -- `send --connect=ADDR --name=NAME`, where ADDR is no local address
   pub connect : (program connect name : Text)
       → ((address : SocketAddr) → ¬ IsAddress false connect address)

@@ -3,7 +3,7 @@ use Rattle.std.specs.Prelude.{⊤, ℕ, ◌<◌, ◌≤◌, Option, Some, None}
 use Rattle.std.specs.Net.Socket.{socket_port}
 use Rattle.std.specs.declared.net.socket_addr.SocketAddr.{SocketAddr}
 use Rattle.bw_args.specs.Numbers.{IsLimitValue, most_block, most_exchanges, most_fruitless}
-use Rattle.bw_args.specs.Numbers.{most_rate, most_recorders, most_rounds, most_seconds}
+use Rattle.bw_args.specs.Numbers.{most_rate, most_recorders, most_rounds, most_seconds, most_takes_asked}
 use Rattle.bw_args.specs.declared.CommandLine.{CommandLine}
 use Rattle.bw_args.specs.declared.CommandLine.TheVariants.{Run, BadValue as Bad, Report}
 use Rattle.bw_args.specs.declared.peers.End.{End}
@@ -43,6 +43,7 @@ HasNumbersInRange (Run (Inspect file)) = ⊤
 HasNumbersInRange (Run (InspectFiles inspection)) = ⊤
 HasNumbersInRange (Run (Serve server)) = (0 < socket_port server.listen) × IsEndWithin server.end
     × IsLimitValue server.limit × IsWayWithin server.recorders × HasPort server.status
+    × IsWithin most_takes_asked server.max_takes
 HasNumbersInRange (Run (Send sender)) = (0 < socket_port sender.connect)
     × ((1 ≤ sender.rounds) × (sender.rounds ≤ most_rounds))
     × IsWithin most_seconds sender.timeout

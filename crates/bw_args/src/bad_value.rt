@@ -35,6 +35,8 @@ pub enum BadValue {
     Status,
     /// The form of what a server reports.
     Log,
+    /// How many takes a server has at most.
+    MaxTakes,
     /// Other options of `takes` beside `--watch`.
     Watch,
     /// Other options of `takes` beside `--verify`.
@@ -106,6 +108,7 @@ impl BadValue {
             BadValue::Rest => BAD_REST,
             BadValue::Status => BAD_STATUS,
             BadValue::Log => BAD_LOG,
+            BadValue::MaxTakes => BAD_MAX_TAKES,
             BadValue::Watch => BAD_WATCH,
             BadValue::Verify => BAD_VERIFY,
             BadValue::GiveUp => BAD_GIVE_UP,
@@ -179,6 +182,10 @@ const BAD_STATUS: &str = report!(
 );
 
 const BAD_LOG: &str = report!("'--log [<FORM>]' takes 'lines' or 'json', and may stand alone");
+
+const BAD_MAX_TAKES: &str = report!(
+    "'--max-takes <N>' takes a number from 1 to 1000000, in at most ten digits"
+);
 
 const BAD_WATCH: &str = report!(
     "'--watch' can't be given beside '--check', '--json', '--digest' and '--give-up <NAME>'"

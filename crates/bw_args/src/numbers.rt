@@ -18,6 +18,9 @@ pub(crate) const MOST_ROUNDS: u32 = 1_000;
 /// The rounds if no number is given.
 pub(crate) const DEFAULT_ROUNDS: u32 = 16;
 
+/// The most takes to which a server may be asked to limit itself.
+pub(crate) const MOST_TAKES: u32 = 1_000_000;
+
 /// The most recorders that a server may be asked to serve at once.
 pub(crate) const MOST_RECORDERS: u32 = 256;
 

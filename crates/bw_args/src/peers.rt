@@ -67,6 +67,8 @@ pub struct Serve {
     pub allow: Option<String>,
     /// Where it shows its status, if it does; only a server of many recorders does. Its port isn't 0.
     pub status: Option<SocketAddr>,
+    /// How many takes it has at most, 1 to 1,000,000; without limit if `None`.
+    pub max_takes: Option<u32>,
 }
 
 /// The sender that a command line asks for.

@@ -21,6 +21,9 @@ use Rattle.bw_upload.specs.Sends.{IsSendRun}
 use Rattle.bw_ports.specs.declared.listener_setup.ListenerSetup.{Ghosts as ListenerSetupGhosts}
 use Rattle.bw_ports.specs.declared.network.Network.{Ghosts as NetworkGhosts}
 use Rattle.bw_ports.specs.declared.starts.StartRefusal.{StartRefusal}
+use Rattle.bw_bounded.specs.BoundedAnswers.{AnswersBounded}
+use Rattle.bw_bounded.specs.BoundedServers.{CommitsBounded, IsBounded, inner_server}
+use Rattle.bw_bounded.specs.declared.bounding.BoundedServer.{BoundedServer}
 use Rattle.bw_serve.specs.Beginnings.{Calls, counted_calls, store_calls}
 use Rattle.bw_serve.specs.Hostings.{ServesAtOnce, ServesInTurn}
 use Rattle.bw_serve.specs.Openings.{OpensNew}
@@ -34,8 +37,14 @@ use Rattle.bw_serve.specs.declared.hosting_in_turn.Serving.{Serving}
 use Rattle.bw_serve.specs.declared.opening.OpenedServer.{OpenedServer}
 use Rattle.bw_serve_status.specs.Shown.{ServesShown}
 use Rattle.bw_serve_status.specs.declared.hosting.Showing.{Showing}
-use Rattle.bw_program.specs.Sides.{KeptSide, ReachSide, SenderSide, ServerSide, TurnsSide, new_turns}
+use Rattle.bw_program.specs.Sides.{KeptSide, ReachSide, SenderSide, ServerSide, TurnsSide, new_turns, turns_side}
 use Rattle.bw_program.specs.Sources.{NotesInput}
+
+-- what a server answers and commits that has a bound on its takes, and which books its table holds
+abbrev pub bounded_side : {T : Type 0} → TurnsSide T → TurnsSide (BoundedServer T)
+bounded_side turns = turns_side (AnswersBounded turns.answers turns.committed turns.holds)
+    (λ b. turns.committed (inner_server b)) (CommitsBounded turns.commits)
+    (λ b first book. turns.holds (inner_server b) first book)
 
 -- how many exchanges a server makes: without an end the most that can be counted, 2^64 - 1
 abbrev pub exchanges_of : End → ℕ
@@ -102,11 +111,13 @@ module _ {N X P R W L K SP SK D A B O E : Type 0} (network : NetworkGhosts N X P
         × ServesShown turns.answers turns.commits turns.holds reach.reactor reach.link out
         reported reach.status listener_setup showing opened exit n n' o o' e e'
 
-    -- if one was opened; else it is reported why none was
+  module _ {T : Type 0} (turns : TurnsSide T) where
+    -- with the bound on its takes that is asked for, if one was opened; else it is reported why none was
     abbrev pub ServesOpened : Serve → AllowRules → Result (OpenedServer T) StartRefusal → Exit →
         N → N → O → O → E → E → Type 0
     ServesOpened server allow (Ok opened) exit n n' o o' e e' =
-        ServesBy server.recorders server.status server allow opened exit n n' o o' e e'
+        (it : OpenedServer (BoundedServer T)) × IsBounded server.max_takes opened it
+        × ServesBy (bounded_side turns) server.recorders server.status server allow it exit n n' o o' e e'
     ServesOpened server allow (Err refusal) exit n n' o o' e e' = (n' ≡ n) × (o' ≡ o)
         × ReportsRefusal reported (string_bytes server.folder) refusal exit e e'
 

@@ -2,7 +2,7 @@
 ghost use Rattle.std.specs.Prelude.{◌≡◌, IfOk, option_map};
 ghost use Rattle.bw_layout.specs.Limits.{IsLimit};
 ghost use Rattle.bw_args.specs.declared.Task.TheVariants.{Send as Sending};
-ghost use Rattle.bw_program.specs.Remote.{IsChoice, IsHosting, IsServingAs, ServesByRule};
+ghost use Rattle.bw_program.specs.Remote.{IsChoice, IsHosting, IsServingAs, ServesBy, ServesByRule};
 ghost use Rattle.bw_program.specs.Remote.{ServesOpened, exchanges_of, log_form_of};
 ghost use Rattle.bw_program.specs.Requests.{ByTask};
 ghost use Rattle.bw_program.specs.Sides.{kept_side, reach_side, server_side, turns_side};
@@ -12,6 +12,7 @@ ghost use Rattle.bw_serve_status.specs.Shown.{status_side};
 use crate::behavior::Behavior;
 use crate::outside::{Environment, Outside};
 use bw_args::{End, Journaling, Logging, Recorders, Send, Serve};
+use bw_bounded::bounded;
 use bw_console::Exit;
 use bw_console::print::print_diagnostic;
 use bw_exchange::Turns;
@@ -108,7 +109,8 @@ struct Orders<'a> {
     allow: &'a AllowList,
 }
 
-/// Serves with the server that was opened, or reports why none was.
+/// Serves with the server that was opened, and the bound on its takes that is asked for; or reports why
+/// none was opened.
 fn serve_opened<
     N: Network + ListenerSetup + StatusSetup<N::Reactor>,
     T: Turns + HasTable + Drop,
@@ -130,11 +132,37 @@ fn serve_opened<
         network.old network.new out.old out.new faults.old faults.new }
 {
     let server = orders.server;
-    let allow = orders.allow;
     let opened = match opened {
-        Ok(opened) => opened,
+        Ok(opened) => bounded(alloc, opened, server.max_takes),
         Err(refusal) => return report_refusal(alloc, server.folder.as_str(), &refusal, faults),
     };
+    serve_by(alloc, orders, opened, network, out, faults)
+}
+
+/// Serves in the way that the command line asks for: one recorder after another, or many at once.
+fn serve_by<
+    N: Network + ListenerSetup + StatusSetup<N::Reactor>,
+    T: Turns + HasTable + Drop,
+    W: Sink,
+    E: Sink,
+>(
+    alloc: Global,
+    orders: &Orders<'_>,
+    opened: OpenedServer<T>,
+    network: &mut N,
+    out: &mut W,
+    faults: &mut E,
+) -> Exit
+    requires { T.committed opened.server }
+    ensures { ServesBy N.Network N.ListenerSetup (reach_side N.Peers.Peers N.Peers.Reader.Source
+        N.Peers.Writer.Sink N.Reactor.Reactor N.Reactor.Link.Link
+        (status_side N.StatusSetup N.Port.StatusPort N.Port.Link.Link)) W.Sink E.Sink
+        (turns_side T.answers T.committed T.commits T.holds) orders.now.server.now.recorders
+        orders.now.server.now.status orders.now.server.now orders.now.allow.now opened result network.old
+        network.new out.old out.new faults.old faults.new }
+{
+    let server = orders.server;
+    let allow = orders.allow;
     match server.recorders {
         Recorders::InTurn { timeout } => {
             let serving = serving_of(server, allow, timeout);

@@ -184,7 +184,7 @@ pub(crate) const TAKES: [Row; 7] = [
 ];
 
 /// The options of `serve`.
-pub(crate) const SERVE: [Row; 16] = [
+pub(crate) const SERVE: [Row; 17] = [
     Row {
         name: "listen",
         kind: Required("ADDR"),
@@ -252,6 +252,11 @@ pub(crate) const SERVE: [Row; 16] = [
         name: "status",
         kind: Value("ADDR"),
         help: "With --recorders: serves a status page over HTTP at 127.0.0.1:PORT, or any address with --network",
+    },
+    Row {
+        name: "max-takes",
+        kind: Value("N"),
+        help: "Has at most N takes, 1 to 1000000: no message of another name is accepted [default: no limit]",
     },
 ];
 

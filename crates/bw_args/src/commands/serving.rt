@@ -29,8 +29,8 @@ struct ServedPaths {
 
 /// Bad values are reported in this order: the address, the folder, the exchanges, the limit, those
 /// of `recorders_given`, `--until-stopped` with a number of exchanges, `--sync` without `--journal`,
-/// `--rest` without it, the address of `--status`, or that without `--recorders`, and the form of
-/// `--log`.
+/// `--rest` without it, the address of `--status`, or that without `--recorders`, the form of `--log`,
+/// and the most takes.
 pub(crate) fn serve_line(alloc: Global, options: &ArgMatches<'_>) -> Result<CommandLine, AllocError>
     ensures ok { IfOk result (IsLineFor (Some (codes "serve", rows_of (found_of options.now)))) }
     ensures err { OnErr result
@@ -71,6 +71,9 @@ pub(crate) fn serve_line(alloc: Global, options: &ArgMatches<'_>) -> Result<Comm
     let Ok(log) = log_given(options) else {
         return Ok(CommandLine::BadValue(BadValue::Log));
     };
+    let Ok(max_takes) = count_given(options, "max-takes", numbers::MOST_TAKES) else {
+        return Ok(CommandLine::BadValue(BadValue::MaxTakes));
+    };
     let one_name = flag_given(options, "one-name");
     let paths = paths_given(alloc, path, options)?;
     Ok(CommandLine::Run(Task::Serve(Serve {
@@ -85,6 +88,7 @@ pub(crate) fn serve_line(alloc: Global, options: &ArgMatches<'_>) -> Result<Comm
         one_name,
         allow: paths.allow,
         status,
+        max_takes,
     })))
 }
 

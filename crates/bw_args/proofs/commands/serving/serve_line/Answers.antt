@@ -2,7 +2,7 @@ use Rattle.std.proofs.Common.{codes, refl, subst, sym}
 use Rattle.clap.specs.Words.{first_value, found_of}
 use Rattle.bw_args.specs.Lines.{GivesFolder, Serving, looked_at_serving, looked_at_waiting}
 use Rattle.bw_args.specs.declared.bad_value.BadValue.TheVariants.{Listen, Folder, Exchanges, Limit}
-use Rattle.bw_args.specs.declared.bad_value.BadValue.TheVariants.{UntilStopped, Sync, Rest, Status, Log}
+use Rattle.bw_args.specs.declared.bad_value.BadValue.TheVariants.{UntilStopped, Sync, Rest, Status, Log, MaxTakes}
 use Rattle.bw_args.proofs.Asked.{a_journaling, a_rest, a_status, an_address, an_end, bad, bad_line, first_then, found_address, no_address}
 use Rattle.bw_args.proofs.Asked.{no_end, no_journaling, no_rest, no_status, on_err, server_asked, way_then, ◌and_then◌}
 use Rattle.bw_args.proofs.commands.serving.serve_line.Goals as goal
@@ -145,6 +145,36 @@ returns-in_default-log_given-clause-ok c = bad_line (found_of c.args.options.now
     and_then bad (λ good. c.in_default-log_given.ensures good.0 good.1))
     )
 
+pub returns-in_default-count_given-2-clause-ok : goal.returns-in_default-count_given-2-clause-ok
+returns-in_default-count_given-2-clause-ok c = bad_line (found_of c.args.options.now) (codes "serve") MaxTakes (
+    found_address (found_of c.args.options.now) (codes "listen") _ _ c.flag_given-network.ensures c.in-Some.ensures
+    and_then (_, c.in-Some-folder_given.ensures) and_then (c.in-Ok.count, c.in-Ok.ensures)
+    and_then (c.in-Some-limit_given.limit, c.in-Some-limit_given.ensures)
+    and_then way_then looked_at_serving (first_value (found_of c.args.options.now)) MaxTakes
+    c.in-Ok-recorders_given.recorders c.in-Ok-recorders_given.ensures.ok
+    ((
+      c.in-Some-end_given.end,
+      an_end (found_of c.args.options.now) _ _ _ c.flag_given.ensures c.in-Ok.ensures
+          c.in-Some-end_given.ensures,
+    )
+    and_then (
+      c.in-Some-journaling.journal,
+      a_journaling (found_of c.args.options.now) _ _ _ c.flag_given-is_kept.ensures
+          c.flag_given-is_synced.ensures c.in-Some-journaling.ensures,
+    )
+    and_then (
+      c.in-Some-rest_given.rest,
+      a_rest (found_of c.args.options.now) _ _ _ c.flag_given-is_kept.ensures c.flag_given-is_asked.ensures
+          c.in-Some-rest_given.ensures,
+    )
+    and_then (
+      c.in-Ok-status_given.status,
+      a_status (found_of c.args.options.now) _ _ c.flag_given-network.ensures c.in-Ok-status_given.ensures,
+    )
+    and_then (c.in-Ok-log_given.log, c.in-Ok-log_given.ensures)
+    and_then bad (λ good. c.in_default-count_given-2.ensures good.0 good.1))
+    )
+
 pub returns-in_err-paths-clause-err : goal.returns-in_err-paths-clause-err
 returns-in_err-paths-clause-err c = on_err c.from_residual.result (
   Serving (record {
@@ -159,6 +189,7 @@ returns-in_err-paths-clause-err c = on_err c.from_residual.result (
     one_name = c.flag_given-one_name.result;
     allow = first_value (found_of c.args.options.now) (codes "allow");
     status = c.in-Ok-status_given.status;
+    max_takes = c.in-Ok-count_given.max_takes;
   }),
   tt,
   server_asked (found_of c.args.options.now) _ (record {
@@ -177,6 +208,7 @@ returns-in_err-paths-clause-err c = on_err c.from_residual.result (
     names = c.flag_given-one_name.ensures;
     allows = refl;
     shows = a_status (found_of c.args.options.now) _ _ c.flag_given-network.ensures c.in-Ok-status_given.ensures;
+    bounds = c.in-Ok-count_given.ensures;
   }),
 )
 
@@ -196,4 +228,5 @@ returns-clause-ok c = server_asked (found_of c.args.options.now) _ (record {
   names = c.flag_given-one_name.ensures;
   allows = c.in_ok-paths.ensures.allow;
   shows = a_status (found_of c.args.options.now) _ _ c.flag_given-network.ensures c.in-Ok-status_given.ensures;
+  bounds = c.in-Ok-count_given.ensures;
 })
