@@ -10,7 +10,7 @@ _bwingest() {
     --folder) COMPREPLY=($(compgen -d -- "$word")) && return ;;
     esac
     case ${COMP_WORDS[1]} in
-    serve) options='--listen --folder --exchanges --limit --timeout --network --recorders --idle --until-stopped --log --journal --sync --rest --one-name --allow --status --help' ;;
+    serve) options='--listen --folder --exchanges --limit --timeout --network --recorders --idle --until-stopped --log --journal --sync --rest --one-name --allow --status --max-takes --help' ;;
     send) options='--connect --name --names --rounds --timeout --network --file --set --strict --strict-texts --keep-left-out --fruitless --log --state --rate --receipt --json --pcm --skip --block --follow --until --spool --no-defaults --marks --help' ;;
     inspect) options='--json --human --digest --help' ;;
     pack) options='--set --strict --strict-texts --keep-left-out --help' ;;

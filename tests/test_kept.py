@@ -178,6 +178,27 @@ def case_nothing_can_leave(place):
     ends_by_signal("nothing can leave", server)
 
 
+def case_most_takes(place):
+    """With --max-takes a name beyond them is TableFull, also after a stop; the takes that are there go on."""
+    known, (new,) = takes_of(3), takes_of(1, "new")
+    full = notice(new.name, 0, TABLE_FULL, 0)
+    folder = left_by(place, known[:2], 2)
+    for most, count, options in (("3", 2, JOURNAL), ("3", 3, MANY), ("2", 3, JOURNAL)):
+        server = kept(folder, count, *options, "--max-takes", most)
+        says("the last take", server, known[2], [0, 1])
+        TALLY.same("a name beyond them", exchange(server, new.messages()[0]), full)
+        has_next("an ask of it", server, new, 0)
+        says("a take goes on", server, known[0], range(3))
+        TALLY.same("no file of it", of_name(folder, new.name), {})
+        ends_by_signal("most takes", server)
+    plain = folder_in(place, "plain")
+    server = Server(plain, "--until-stopped", "--max-takes", "1")
+    says_all("without a journal", server, known[0])
+    TALLY.same("a name beyond them, without a journal", exchange(server, new.messages()[0]), full)
+    says("a repeat, without a journal", server, known[0], [0])
+    ends_by_signal("most takes, without a journal", server)
+
+
 # Names with a fault
 
 

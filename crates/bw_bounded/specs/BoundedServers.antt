@@ -17,7 +17,7 @@ abbrev pub takes_counted : {T : Type 0} → BoundedServer T → ℕ
 takes_counted b = b.takes
 
 -- it is the server that was opened, with this bound; the takes that its folder had count
-pub record IsBounded {T : Type 0} (most : Option ℕ) (opened : OpenedServer T)
+pub record HasBound {T : Type 0} (most : Option ℕ) (opened : OpenedServer T)
     (result : OpenedServer (BoundedServer T)) : Type 0 where
   pub server : inner_server result.server ≡ opened.server
   pub bound : bound_on result.server ≡ most

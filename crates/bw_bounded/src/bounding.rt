@@ -8,7 +8,7 @@ ghost use Rattle.bw_wire.specs.Frames.{message_of, asked_name, asked_number};
 ghost use Rattle.bw_wire.specs.Notices.{notice_meaning};
 ghost use Rattle.bw_wire.specs.Replies.{reply_of, HasWireNumbers};
 ghost use Rattle.bw_bounded.specs.BoundedAnswers.{is_next_reply};
-ghost use Rattle.bw_bounded.specs.BoundedServers.{IsBounded};
+ghost use Rattle.bw_bounded.specs.BoundedServers.{HasBound};
 
 use arrayvec::ArrayVec;
 use bw_exchange::{NotKept, Turns};
@@ -41,7 +41,7 @@ pub fn bounded<T>(
     opened: OpenedServer<T>,
     most: Option<u32>,
 ) -> OpenedServer<BoundedServer<T>>
-    ensures { IsBounded most opened result }
+    ensures { HasBound most opened result }
 {
     let OpenedServer { server, takes } = opened;
     let server = BoundedServer {
@@ -69,7 +69,7 @@ impl<T: HasTable> HasTable for BoundedServer<T> {
 
 impl<T: Turns + HasTable> BoundedServer<T> {
     ghost use Rattle.bw_bounded.specs.BoundedAnswers.{AnswersFound, AnswersUnknown, AnswersUnder, BeginsTake};
-    ghost use Rattle.bw_bounded.specs.BoundedAnswers.{Knows};
+    ghost use Rattle.bw_bounded.specs.BoundedAnswers.{KnowsName};
 
     /// Answers a message, with this bound.
     fn turn_under(
@@ -178,7 +178,7 @@ impl<T: Turns + HasTable> BoundedServer<T> {
 
     /// Whether a name is in the table.
     fn knows(&self, name: &Name) -> bool
-        ensures { Knows T.holds self.now.server name.now result }
+        ensures { KnowsName T.holds self.now.server name.now result }
     {
         self.server.table().is_known(name)
     }

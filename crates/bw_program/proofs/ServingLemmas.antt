@@ -5,7 +5,7 @@ use Rattle.std.specs.declared.net.socket_addr.SocketAddr.{SocketAddr}
 use Rattle.bw_args.specs.declared.peers.Recorders.{Recorders}
 use Rattle.bw_args.specs.declared.peers.Recorders.TheVariants as recorders
 use Rattle.bw_args.specs.declared.peers.Serve.{Serve}
-use Rattle.bw_bounded.specs.BoundedServers.{IsBounded}
+use Rattle.bw_bounded.specs.BoundedServers.{HasBound}
 use Rattle.bw_bounded.specs.declared.bounding.BoundedServer.{BoundedServer}
 use Rattle.bw_console.specs.declared.exit.Exit.{Exit}
 use Rattle.bw_ports.specs.declared.listener_setup.ListenerSetup.{Ghosts as ListenerSetupGhosts}
@@ -41,7 +41,7 @@ module _ {N X P R W L K SP SK D A B O E T : Type 0} (network : NetworkGhosts N X
   -- a server was opened, and serves with the bound on its takes
   pub serves_bounded : (server : Serve) (allow : AllowRules) (given : Result (OpenedServer T) StartRefusal)
       (opened : OpenedServer T) (it : OpenedServer (BoundedServer T)) (exit : Exit) (n n' : N) (o o' : O) (e e' : E) →
-      given ≡ Ok opened → IsBounded server.max_takes opened it →
+      given ≡ Ok opened → HasBound server.max_takes opened it →
       ServesBy network listener_setup reach out reported (bounded_side turns) server.recorders server.status server allow
       it exit n n' o o' e e' →
       ServesOpened network listener_setup reach out reported turns server allow given exit n n' o o' e e'

@@ -22,7 +22,7 @@ use Rattle.bw_ports.specs.declared.listener_setup.ListenerSetup.{Ghosts as Liste
 use Rattle.bw_ports.specs.declared.network.Network.{Ghosts as NetworkGhosts}
 use Rattle.bw_ports.specs.declared.starts.StartRefusal.{StartRefusal}
 use Rattle.bw_bounded.specs.BoundedAnswers.{AnswersBounded}
-use Rattle.bw_bounded.specs.BoundedServers.{CommitsBounded, IsBounded, inner_server}
+use Rattle.bw_bounded.specs.BoundedServers.{CommitsBounded, HasBound, inner_server}
 use Rattle.bw_bounded.specs.declared.bounding.BoundedServer.{BoundedServer}
 use Rattle.bw_serve.specs.Beginnings.{Calls, counted_calls, store_calls}
 use Rattle.bw_serve.specs.Hostings.{ServesAtOnce, ServesInTurn}
@@ -116,7 +116,7 @@ module _ {N X P R W L K SP SK D A B O E : Type 0} (network : NetworkGhosts N X P
     abbrev pub ServesOpened : Serve → AllowRules → Result (OpenedServer T) StartRefusal → Exit →
         N → N → O → O → E → E → Type 0
     ServesOpened server allow (Ok opened) exit n n' o o' e e' =
-        (it : OpenedServer (BoundedServer T)) × IsBounded server.max_takes opened it
+        (it : OpenedServer (BoundedServer T)) × HasBound server.max_takes opened it
         × ServesBy (bounded_side turns) server.recorders server.status server allow it exit n n' o o' e e'
     ServesOpened server allow (Err refusal) exit n n' o o' e e' = (n' ≡ n) × (o' ≡ o)
         × ReportsRefusal reported (string_bytes server.folder) refusal exit e e'
