@@ -325,8 +325,7 @@ module _ {T : Type 0} (answers : T → Frame → List Reply → T → Type 0) (c
       AnswersAll (AnswersBounded answers committed holds) b xs b' →
       (own : List Answered) × LeavesGiven xs own × AnswersAll answers (inner_server b) own (inner_server b')
   given_runs b xs b' all h =
-      let r = given_run b xs b' h in
-      (
+      let r = given_run b xs b' h in (
         r.own,
         r.leaves,
         subst (λ (t : T). AnswersAll answers t r.own (inner_server b')) (r.rests.unchanged all) r.run,

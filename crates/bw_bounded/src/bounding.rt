@@ -72,12 +72,7 @@ impl<T: Turns + HasTable> BoundedServer<T> {
     ghost use Rattle.bw_bounded.specs.BoundedAnswers.{KnowsName};
 
     /// Answers a message, with this bound.
-    fn turn_under(
-        &mut self,
-        most: u32,
-        message: &Message<'_>,
-        replies: &mut ArrayVec<Reply, 17>,
-    )
+    fn turn_under(&mut self, most: u32, message: &Message<'_>, replies: &mut ArrayVec<Reply, 17>)
         ensures answered { AnswersUnder T.answers T.committed T.holds most self.old.server
             (message_of message.now) (map reply_of replies.new.items) self.new.server self.old.takes
             self.new.takes }
@@ -92,12 +87,7 @@ impl<T: Turns + HasTable> BoundedServer<T> {
     }
 
     /// Answers a message of a name that isn't in the table.
-    fn turn_unknown(
-        &mut self,
-        most: u32,
-        message: &Message<'_>,
-        replies: &mut ArrayVec<Reply, 17>,
-    )
+    fn turn_unknown(&mut self, most: u32, message: &Message<'_>, replies: &mut ArrayVec<Reply, 17>)
         ensures answered { AnswersUnknown T.answers T.committed T.holds most self.old.server
             (message_of message.now) (map reply_of replies.new.items) self.new.server self.old.takes
             self.new.takes }
