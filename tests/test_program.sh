@@ -293,7 +293,7 @@ Options:
       --one-name           Ends a connection at a message under another name than its first
       --allow <FILE>       Accepts only the names that FILE lists, each from the addresses given there
       --status <ADDR>      With --recorders: serves a status page over HTTP at 127.0.0.1:PORT, or any address with --network
-      --max-takes <N>      Has at most N takes, 1 to 1000000: no message of another name is accepted [default: no limit]
+      --max-takes <N>      Accepts no new name once there are N takes, 1 to 1000000 [default: no limit]
   -h, --help               Print help
 
 Example: bwingest serve --listen 127.0.0.1:4100 --folder takes --until-stopped --recorders 16 --journal

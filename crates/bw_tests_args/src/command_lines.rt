@@ -400,7 +400,7 @@ fn a_server_takes_its_options_in_any_order(rt: HostRuntime) -> Result<(), AllocE
     lines_come_to(&rt, rt.alloc(), &SERVE, &SERVERS)
 }
 
-static EVENT_LOOPS: [Line; 22] = [
+static EVENT_LOOPS: [Line; 26] = [
     (
         &["--recorders", "16"],
         Outcome::Serves(
@@ -473,6 +473,13 @@ static EVENT_LOOPS: [Line; 22] = [
         Outcome::ShowsStatus(4200),
     ),
     (&["--recorders"], Outcome::Refuses),
+    (&["--max-takes=1", "--journal"], Outcome::BoundsTakes(1)),
+    (
+        &["--recorders=2", "--max-takes", "1000000"],
+        Outcome::BoundsTakes(1_000_000),
+    ),
+    (&["--max-takes", "0"], Outcome::Refuses),
+    (&["--max-takes", "1000001"], Outcome::Refuses),
 ];
 
 #[test]

@@ -32,6 +32,8 @@ pub(crate) enum Outcome {
     Rests(Journaling),
     /// Serves there, and shows its status at this port.
     ShowsStatus(u16),
+    /// Serves there, and accepts no new name once there are so many takes.
+    BoundsTakes(u32),
     /// Serves at another address or in another folder.
     ServesElsewhere,
     /// Sends to the address and under the name that the rows' first words give, in at most this
@@ -199,6 +201,8 @@ fn server_outcome(server: &Serve) -> Outcome {
         Outcome::ServesElsewhere
     } else if let Some(status) = server.status {
         Outcome::ShowsStatus(status.port())
+    } else if let Some(most) = server.max_takes {
+        Outcome::BoundsTakes(most)
     } else if server.rest {
         Outcome::Rests(server.journal)
     } else if server.journal != Journaling::Without {

@@ -256,7 +256,7 @@ pub(crate) const SERVE: [Row; 17] = [
     Row {
         name: "max-takes",
         kind: Value("N"),
-        help: "Has at most N takes, 1 to 1000000: no message of another name is accepted [default: no limit]",
+        help: "Accepts no new name once there are N takes, 1 to 1000000 [default: no limit]",
     },
 ];
 
