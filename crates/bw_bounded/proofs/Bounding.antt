@@ -10,7 +10,7 @@ use Rattle.bw_model.specs.Turn.{notice}
 use Rattle.bw_exchange.specs.AnsweredFrames.{Answered, AnswersAll}
 use Rattle.bw_serve.specs.Guards.{Rests}
 use Rattle.bw_bounded.specs.BoundedServers.{inner_server, bound_on, takes_counted}
-use Rattle.bw_bounded.specs.BoundedAnswers.{is_next_reply, takes_with, TurnsAway, IsPassedOn, BeginsTake, Decides, AnswersFound}
+use Rattle.bw_bounded.specs.BoundedAnswers.{KnowsName, is_next_reply, takes_with, TurnsAway, IsPassedOn, BeginsTake, Decides, AnswersFound}
 use Rattle.bw_bounded.specs.BoundedAnswers.{LooksUp, AnswersUnknown, AnswersKnown, AnswersUnder, AnswersWithin}
 use Rattle.bw_bounded.specs.BoundedAnswers.{AnswersBounded, BoundedRunsAreRuns, LeavesGiven, asked_for}
 use Rattle.bw_bounded.specs.declared.bounding.BoundedServer.{BoundedServer}
@@ -26,6 +26,101 @@ module _ {T : Type 0} (answers : T → Frame → List Reply → T → Type 0) (c
     rests = subst (Rests answers committed t) (sym is) (rests_still t);
     counted = same;
   }
+
+-- What comes of a message, by what was found.
+module _ {T : Type 0} (answers : T → Frame → List Reply → T → Type 0) (committed : T → Type 0)
+    (holds : T → (List ℕ → Option (List ℕ)) → Book → Type 0) where
+  knows_as : (t : T) (name other : List ℕ) (known is : Bool) → name ≡ other → known ≡ is → KnowsName holds t name known →
+      KnowsName holds t other is
+  knows_as t name other known is same e k = subst (KnowsName holds t other) e (subst (λ (n : List ℕ). KnowsName holds t n known) same k)
+
+  module _ (most : ℕ) (t : T) (m : Message) (replies : List Reply) (t' : T) (takes takes' : ℕ) (name : List ℕ)
+      (known : Bool) (same : name ≡ m.name) (knows : KnowsName holds t name known) where
+    pub under_known : known ≡ true → answers t (Says m) replies t' → takes' ≡ takes →
+        AnswersUnder answers committed holds most t m replies t' takes takes'
+    under_known e h counted = record {
+      known = true;
+      knows = knows_as t name m.name known true same e knows;
+      answered = record { answered = h; counted = counted };
+    }
+
+    pub under_unknown : known ≡ false → AnswersUnknown answers committed holds most t m replies t' takes takes' →
+        AnswersUnder answers committed holds most t m replies t' takes takes'
+    under_unknown e h = record {
+      known = false;
+      knows = knows_as t name m.name known false same e knows;
+      answered = h;
+    }
+
+    pub found_known : (reply : Reply) → known ≡ true → answers t (Says m) replies t' → takes' ≡ takes →
+        AnswersFound answers committed holds most t m reply replies t' takes takes'
+    found_known reply e h counted = record {
+      known = true;
+      knows = knows_as t name m.name known true same e knows;
+      decided = record { answered = h; counted = counted };
+    }
+
+    pub found_put_off : (reply : Reply) → known ≡ false → is_next_reply reply ≡ false → replies ≡ reply ∷ [] → t' ≡ t →
+        takes' ≡ takes → AnswersFound answers committed holds most t m reply replies t' takes takes'
+    found_put_off reply e next is still counted = record {
+      known = false;
+      knows = knows_as t name m.name known false same e knows;
+      decided = subst (λ (b : Bool). Decides answers committed holds false b (nat_le most takes) t m reply replies t'
+          takes takes') (sym next) (is, away_still answers committed t t' takes takes' still counted);
+    }
+
+    pub found_full : (reply : Reply) → known ≡ false → is_next_reply reply ≡ true → nat_le most takes ≡ true →
+        replies ≡ notice m TableFull 0 → t' ≡ t → takes' ≡ takes →
+        AnswersFound answers committed holds most t m reply replies t' takes takes'
+    found_full reply e next full is still counted = record {
+      known = false;
+      knows = knows_as t name m.name known false same e knows;
+      decided = subst (λ (b : Bool). Decides answers committed holds false b (nat_le most takes) t m reply replies t'
+          takes takes') (sym next)
+          (subst (λ (b : Bool). Decides answers committed holds false true b t m reply replies t' takes takes') (sym full)
+          (is, away_still answers committed t t' takes takes' still counted));
+    }
+
+    pub found_begins : (reply : Reply) → known ≡ false → is_next_reply reply ≡ true → nat_le most takes ≡ false →
+        BeginsTake answers committed holds t m replies t' takes takes' →
+        AnswersFound answers committed holds most t m reply replies t' takes takes'
+    found_begins reply e next room h = record {
+      known = false;
+      knows = knows_as t name m.name known false same e knows;
+      decided = subst (λ (b : Bool). Decides answers committed holds false b (nat_le most takes) t m reply replies t'
+          takes takes') (sym next)
+          (subst (λ (b : Bool). Decides answers committed holds false true b t m reply replies t' takes takes') (sym room)
+          h);
+    }
+
+  pub begins_as : (t : T) (m : Message) (replies : List Reply) (t' : T) (takes takes' : ℕ) (name : List ℕ) (known : Bool) →
+      name ≡ m.name → KnowsName holds t' name known → answers t (Says m) replies t' → takes' ≡ takes_with known takes →
+      BeginsTake answers committed holds t m replies t' takes takes'
+  begins_as t m replies t' takes takes' name known same knows h counted = record {
+    after = t';
+    answered = h;
+    rests = rests_still answers committed t';
+    known = known;
+    knows = knows_as t' name m.name known known same refl knows;
+    counted = counted;
+  }
+
+  pub unknown_looked : (most : ℕ) (t : T) (m : Message) (replies : List Reply) (t' : T) (takes takes' : ℕ) (reply : Reply)
+      (mid : T) (between : ℕ) → answers t (Asks m.name m.number) (reply ∷ []) mid → between ≡ takes →
+      AnswersFound answers committed holds most mid m reply replies t' between takes' →
+      AnswersUnknown answers committed holds most t m replies t' takes takes'
+  unknown_looked most t m replies t' takes takes' reply mid between ask same h = inl (record {
+    reply = reply;
+    mid = mid;
+    asked = ask;
+    found = subst (λ (n : ℕ). AnswersFound answers committed holds most mid m reply replies t' n takes') same h;
+  })
+
+  pub unknown_unasked : (most : ℕ) (t : T) (m : Message) (replies : List Reply) (t' : T) (takes takes' : ℕ) →
+      replies ≡ notice m NoRoom 0 → t' ≡ t → takes' ≡ takes →
+      AnswersUnknown answers committed holds most t m replies t' takes takes'
+  unknown_unasked most t m replies t' takes takes' is still counted =
+      inr (is, away_still answers committed t t' takes takes' still counted)
 
 -- After it a commit comes.
 module _ {T : Type 0} (answers : T → Frame → List Reply → T → Type 0) (committed : T → Type 0)

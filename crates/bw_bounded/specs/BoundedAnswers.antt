@@ -45,18 +45,20 @@ LeavesGiven [] own = own ≡ []
 LeavesGiven (a ∷ rest) own = (given more : List Answered) × (own ≡ given ++ more) × IsGiven a given
     × LeavesGiven rest more
 
-module _ {T : Type 0} (answers : T → Frame → List Reply → T → Type 0) (committed : T → Type 0)
-    (holds : T → (List ℕ → Option (List ℕ)) → Book → Type 0) where
+module _ {T : Type 0} (holds : T → (List ℕ → Option (List ℕ)) → Book → Type 0) where
   -- the name is in the table, or isn't, by each book that the table holds
   abbrev pub KnowsName : T → List ℕ → Bool → Type 0
   KnowsName t name known = (first : List ℕ → Option (List ℕ)) (book : Book) → holds t first book →
       known ≡ is_known book name
 
+module _ {T : Type 0} (answers : T → Frame → List Reply → T → Type 0) (committed : T → Type 0) where
   -- the server isn't given a message, and these are its states before and after: a commit may follow
   pub record TurnsAway (t t' : T) (takes takes' : ℕ) : Type 0 where
     pub rests : Rests answers committed t t'
     pub counted : takes' ≡ takes
 
+module _ {T : Type 0} (answers : T → Frame → List Reply → T → Type 0) (committed : T → Type 0)
+    (holds : T → (List ℕ → Option (List ℕ)) → Book → Type 0) where
   -- the server answers it, and no take begins
   pub record IsPassedOn (t : T) (m : Message) (replies : List Reply) (t' : T) (takes takes' : ℕ)
       : Type 0 where
@@ -71,7 +73,7 @@ module _ {T : Type 0} (answers : T → Frame → List Reply → T → Type 0) (c
     pub answered : answers t (Says m) replies after
     pub rests : Rests answers committed after t'
     pub known : Bool
-    pub knows : KnowsName after m.name known
+    pub knows : KnowsName holds after m.name known
     pub counted : takes' ≡ takes_with known takes
 
   -- What comes of a message after the ask for its name, by whether the name is in the table then, whether
@@ -79,15 +81,15 @@ module _ {T : Type 0} (answers : T → Frame → List Reply → T → Type 0) (c
   abbrev pub Decides : Bool → Bool → Bool → T → Message → Reply → List Reply → T → ℕ → ℕ → Type 0
   Decides true next full t m reply replies t' takes takes' = IsPassedOn t m replies t' takes takes'
   Decides false false full t m reply replies t' takes takes' =
-      (replies ≡ reply ∷ []) × TurnsAway t t' takes takes'
+      (replies ≡ reply ∷ []) × TurnsAway answers committed t t' takes takes'
   Decides false true true t m reply replies t' takes takes' =
-      (replies ≡ notice m TableFull 0) × TurnsAway t t' takes takes'
+      (replies ≡ notice m TableFull 0) × TurnsAway answers committed t t' takes takes'
   Decides false true false t m reply replies t' takes takes' = BeginsTake t m replies t' takes takes'
 
   pub record AnswersFound (most : ℕ) (t : T) (m : Message) (reply : Reply) (replies : List Reply) (t' : T)
       (takes takes' : ℕ) : Type 0 where
     pub known : Bool
-    pub knows : KnowsName t m.name known
+    pub knows : KnowsName holds t m.name known
     pub decided : Decides known (is_next_reply reply) (nat_le most takes) t m reply replies t' takes takes'
 
   -- the server was asked for the name of a message
@@ -101,7 +103,7 @@ module _ {T : Type 0} (answers : T → Frame → List Reply → T → Type 0) (c
   -- a name that isn't in the table is looked up, or memory was refused for that
   abbrev pub AnswersUnknown : ℕ → T → Message → List Reply → T → ℕ → ℕ → Type 0
   AnswersUnknown most t m replies t' takes takes' = LooksUp most t m replies t' takes takes'
-      ⊎ ((replies ≡ notice m NoRoom 0) × TurnsAway t t' takes takes')
+      ⊎ ((replies ≡ notice m NoRoom 0) × TurnsAway answers committed t t' takes takes')
 
   -- a message, by whether its name is in the table
   abbrev pub AnswersKnown : Bool → ℕ → T → Message → List Reply → T → ℕ → ℕ → Type 0
@@ -111,7 +113,7 @@ module _ {T : Type 0} (answers : T → Frame → List Reply → T → Type 0) (c
   pub record AnswersUnder (most : ℕ) (t : T) (m : Message) (replies : List Reply) (t' : T)
       (takes takes' : ℕ) : Type 0 where
     pub known : Bool
-    pub knows : KnowsName t m.name known
+    pub knows : KnowsName holds t m.name known
     pub answered : AnswersKnown known most t m replies t' takes takes'
 
   -- any frame, with a bound or without
