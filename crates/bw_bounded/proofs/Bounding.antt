@@ -231,8 +231,11 @@ module _ {T : Type 0} (answers : T → Frame → List Reply → T → Type 0) (c
 
   begun_count : (known : Bool) (takes takes' most : ℕ) → nat_le most takes ≡ false →
       takes' ≡ takes_with known takes → takes' ≤ max takes most
-  begun_count true takes takes' most low is = let below : takes < most = leb-false most takes low in omega (arith, below, is)
-  begun_count false takes takes' most low is = omega (arith, is)
+  begun_count true takes takes' most low is =
+      let below : takes < most = leb-false most takes low in
+      let more : takes' ≡ takes + 1 = is in
+      omega (arith, below, more)
+  begun_count false takes takes' most low is = let same : takes' ≡ takes = is in omega (arith, same)
 
   decided_count : (known next full : Bool) (most : ℕ) (t : T) (m : Message) (reply : Reply) (replies : List Reply) (t' : T)
       (takes takes' : ℕ) → nat_le most takes ≡ full →
