@@ -1,2 +1,3 @@
-pub mod Bounding
+mod Bounding
+mod BoundedRuns
 mod AskedFrames

@@ -1,4 +1,4 @@
-use Rattle.bw_bounded.proofs.Bounding.{bounded_runs_are_runs}
+use Rattle.bw_bounded.proofs.BoundedRuns.{bounded_runs_are_runs}
 use Rattle.bw_bounded.proofs.laws.law_bounded.Goals as goal
 
 pub returns : goal.returns
