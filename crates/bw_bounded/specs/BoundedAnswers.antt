@@ -36,13 +36,13 @@ IsGivenAsked m a given = ((given ≡ []) × (a.replies ≡ notice m NoRoom 0))
     × ((a.replies ≡ reply ∷ []) ⊎ (a.replies ≡ notice m TableFull 0)))))
 
 -- what it is given of any frame: the frame, or so of a message
-abbrev pub IsGivenOf : Answered → List Answered → Type 0
-IsGivenOf a given = (given ≡ a ∷ []) ⊎ ((m : Message) × (a.frame ≡ Says m) × IsGivenAsked m a given)
+abbrev pub IsGivenFor : Answered → List Answered → Type 0
+IsGivenFor a given = (given ≡ a ∷ []) ⊎ ((m : Message) × (a.frame ≡ Says m) × IsGivenAsked m a given)
 
 -- these are what it is given of all, in order
 abbrev pub LeavesGiven : List Answered → List Answered → Type 0
 LeavesGiven [] own = own ≡ []
-LeavesGiven (a ∷ rest) own = (given more : List Answered) × (own ≡ given ++ more) × IsGivenOf a given
+LeavesGiven (a ∷ rest) own = (given more : List Answered) × (own ≡ given ++ more) × IsGivenFor a given
     × LeavesGiven rest more
 
 module _ {T : Type 0} (holds : T → (List ℕ → Option (List ℕ)) → Book → Type 0) where
