@@ -3,20 +3,24 @@
 
 Lines are appended once the recording has a known length, so each marker's place is known. Senders are killed, before
 and after all markers are sent, and run again: the take's cue points are those that were placed first, and no number
-gets another request. The program is the first argument, or the one of this repository. Prints what differs, and last
-'N passed, M failed'.
+gets another request. So it is after failed appends to the kept places. The program is the first argument, or the one of
+this repository. Prints what differs, and last 'N passed, M failed'.
 """
+import errno
 import json
 import random
 import sys
 
 sys.dont_write_bytecode = True  # nothing is left beside this script
-from kit.network import finish, free_port, LOCAL, LONGEST_WAIT, run, run_cases, start_with_pipes, TALLY, wait_until
+from kit.network import finish, free_port, LOCAL, LONGEST_WAIT, reason, run, run_cases, start_with_pipes, TALLY
+from kit.network import wait_until
 from kit.uploads import serve_again, serving
+from kit.watcher import Fault, Watcher
 
 LONGEST_RUN = 170  # seconds, for all of it
 FORMAT = "48000,2,16"
 ALIGN = 4
+WRITE = 1  # the system call
 SECOND = 48_000  # frames
 
 
@@ -127,6 +131,47 @@ def case_killed(folder):
         TALLY.same("killed: identifiers", [one[0] for one in found], [3, 12, 13])
 
 
+class Cutter:
+    """Has a program write only the first bytes of a text, once."""
+
+    CUT = 2
+
+    def __init__(self, text):
+        self.text = text
+
+    def before(self, call):
+        if call.number == WRITE and call.bytes_at(call.words[1], call.words[2]) == self.text:
+            call.change(2, self.CUT)
+            self.text = None
+
+    def after(self, call):
+        pass
+
+
+def case_failed_append(folder):
+    """A place is kept in part as the disk is full, and another isn't synced: the next run has the same markers."""
+    path, marks = folder / "live.raw", folder / "marks"
+    kept, entry = kept_beside(path).name, f"{SECOND} 4.\n".encode()
+    watcher = Watcher(Fault(f"write {kept} {entry[Cutter.CUT:].hex()}", errno.ENOSPC))
+    watcher.wrong = Cutter(entry)
+    with serving(folder) as server:
+        words = words_of(server.port, "live", path, marks)
+        sender = start_with_pipes(*words, observer=watcher)
+        give(sender, path, second_of_samples(8), SECOND * ALIGN)
+        mark(path, marks, "mark 4\n", 2)
+        watcher.faults.append(Fault(f"sync-data {kept}", errno.EIO))
+        mark(path, marks, "mark 9\n", 3)
+        mark(path, marks, "mark 12\n", 4)
+        sender.kill()
+        sender.wait(LONGEST_WAIT)
+        expected = ["48", *(f"{SECOND} {label}." for label in (4, 9, 12))]
+        TALLY.same("failed append: kept places", kept_lines(path), expected)
+        said = f"send: no marker can be placed now: {reason(errno.ENOSPC)}\n"
+        TALLY.same("failed append: what is said", sender.stderr.read().decode(), said)
+        TALLY.same("failed append: status", finish(start_with_pipes(*words))[0], 0)
+        TALLY.same("failed append: cue points", cues_in(folder, "live"), [(4, SECOND), (9, SECOND), (12, SECOND)])
+
+
 def case_all_sent(folder):
     """A sender is killed after it has said that there are no more markers: a later line is none."""
     path, marks, takes = folder / "live.raw", folder / "marks", folder / "takes"
@@ -181,7 +226,7 @@ def case_refused(folder):
     TALLY.holds("another recording: what is said", ".marks at its end is of another recording" in faults, faults)
 
 
-CASES = (case_spool, case_follow, case_killed, case_all_sent, case_link_down, case_refused)
+CASES = (case_spool, case_follow, case_killed, case_failed_append, case_all_sent, case_link_down, case_refused)
 
 if __name__ == "__main__":
     sys.exit(run_cases(CASES, LONGEST_RUN))

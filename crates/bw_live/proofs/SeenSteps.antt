@@ -1,6 +1,6 @@
 -- Which lines are seen.
 use Rattle.std.proofs.Common.{◌≡◌, ◌≢◌, ℕ, zero, suc, ◌≤◌, true, List, [], ◌∷◌, ◌++◌, length, drop, take, Option, Some, None, refl, sym}
-use Rattle.std.proofs.Common.{◌∙◌, ap, subst, arith, length-drop, append_assoc}
+use Rattle.std.proofs.Common.{◌∙◌, inl, inr, ap, subst, arith, length-drop}
 use Rattle.std.specs.Prelude.{◌==◌, Bool, false, MatchOption, OnErr, Result, Ok, Err, is_some, option_to_list, if◌then◌else◌}
 use Rattle.bw_ports.specs.StateReadings.{lines_after}
 use Rattle.std.proofs.Math.Seq.{take-length}
@@ -14,9 +14,10 @@ use Rattle.bw_live.specs.KeptPlaces.{MarksKept, with_line_at, with_lines_at}
 use Rattle.bw_live.specs.MarkLines.{wish_said}
 use Rattle.bw_live.specs.MarkPlaces.{placed_mark}
 use Rattle.bw_live.specs.MarkTexts.{mark_text}
-use Rattle.bw_live.specs.MarkLooks.{ArePrinted, HasSeen, HasSeenNone, HasSeenSome, MarkKeeping, SeesNew, SeesSome, StaysElse, begun_text}
-use Rattle.bw_live.specs.MarkLooks.{frame_now, cut_end, new_lines, skip_report, reports_at, texts_at}
+use Rattle.bw_live.specs.MarkLooks.{AgreesWithFile, ArePrinted, FailsLook, HasLooked, HasSeen, HasSeenNone, HasSeenSome, MarkKeeping}
+use Rattle.bw_live.specs.MarkLooks.{SeesNew, SeesSome, StaysElse, frame_now, new_lines, next_text, skip_report, reports_at, texts_at}
 use Rattle.bw_live.specs.declared.files.MarkFiles.{Ghosts as Files}
+use Rattle.bw_live.proofs.WriteSteps.{begins_longer, begins_not, writes_more, writes_nothing}
 
 -- after the last line there is none
 pub drop_past : (xs : List (List ℕ)) (n m : ℕ) → drop n xs ≡ [] → n ≤ m → drop m xs ≡ []
@@ -48,54 +49,11 @@ pub on_error_weaker : {T E P Q : Type 0} (r : Result T E) → (P → Q) → OnEr
 on_error_weaker (Ok x) weaker p = tt
 on_error_weaker (Err e) weaker p = weaker p
 
--- nothing is written
-pub writes_nothing : (old : Option (List ℕ)) → Writes old [] old
-writes_nothing old = λ xs is. is ∙ ap (λ (z : List ℕ). Some z) (sym (append-nil xs))
-
--- one text is written after another
-pub writes_more : (a b c : Option (List ℕ)) (first rest : List ℕ) →
-    Writes a first b → Writes b rest c → Writes a (first ++ rest) c
-writes_more a b c first rest here there = λ xs is.
-    there (xs ++ first) (here xs is) ∙ ap (λ (z : List ℕ). Some z) (append_assoc xs first rest)
-
--- a prefix is written after a text
-pub begins_after : (a b c : Option (List ℕ)) (first rest : List ℕ) →
-    Writes a first b → Begins b rest c → Begins a (first ++ rest) c
-begins_after a b c first rest here there = λ xs is.
-    let cut = there (xs ++ first) (here xs is) in record {
-      part = first ++ cut.part;
-      rest = cut.rest;
-      whole = append_assoc first cut.part cut.rest ∙ ap (λ (z : List ℕ). first ++ z) cut.whole;
-      stands = cut.stands ∙ ap (λ (z : List ℕ). Some z) (append_assoc xs first cut.part);
-    }
-
--- a whole text is a prefix of itself
-pub begins_whole : (a b : Option (List ℕ)) (text : List ℕ) → Writes a text b → Begins a text b
-begins_whole a b text here = λ xs is. record { part = text; rest = []; whole = append-nil text; stands = here xs is }
-
--- nothing is a prefix of any text
-pub begins_not : (a : Option (List ℕ)) (text : List ℕ) → Begins a text a
-begins_not a text = λ xs is. record {
-  part = [];
-  rest = text;
-  whole = refl;
-  stands = is ∙ ap (λ (z : List ℕ). Some z) (sym (append-nil xs));
-}
-
--- where something was kept, the header isn't written again
-pub begun_on : (header bytes : List ℕ) → (length bytes == 0) ≡ false → begun_text header bytes ≡ cut_end bytes
-begun_on header [] is = absurd (cc)
-begun_on header (b ∷ bs) is = refl
-
--- a prefix of a text is one of a longer text
-pub begins_longer : (a b : Option (List ℕ)) (text more : List ℕ) → Begins a text b → Begins a (text ++ more) b
-begins_longer a b text more here = λ xs is.
-    let cut = here xs is in record {
-      part = cut.part;
-      rest = cut.rest ++ more;
-      whole = sym (append_assoc cut.part cut.rest more) ∙ ap (λ (z : List ℕ). z ++ more) cut.whole;
-      stands = cut.stands;
-    }
+-- what comes after the last line may be longer
+begins_next : (frame : ℕ) (k : MarksKept) (lines : List (List ℕ)) (after : List ℕ) (a b : Option (List ℕ)) →
+    Begins a (next_text frame k lines []) b → Begins a (next_text frame k lines after) b
+begins_next frame k [] after a b here = begins_longer a b [] after here
+begins_next frame k (line ∷ lines) after a b here = here
 
 -- texts are printed after others
 pub printed_more : {S : Type 0} (w : Writer S) (xs ys : List (List ℕ)) (a b c : S) →
@@ -114,13 +72,14 @@ unfolding ArePrinted
 one_printed w text a b printed = (b, printed, refl)
 
 -- a keeper begins with what it is given
-pub begins_with : {F E : Type 0} (k : MarkKeeping F E) (recording marks keeps : List ℕ) →
-    k.recording ≡ recording → k.marks ≡ marks → k.keeps ≡ keeps →
-    k ≡ record k { recording = recording; marks = marks; keeps = keeps }
-begins_with {F} {E} k recording marks keeps r m p =
+pub begins_with : {F E : Type 0} (k : MarkKeeping F E) (recording marks keeps header : List ℕ) →
+    k.recording ≡ recording → k.marks ≡ marks → k.keeps ≡ keeps → k.header ≡ header →
+    k ≡ record k { recording = recording; marks = marks; keeps = keeps; header = header }
+begins_with {F} {E} k recording marks keeps header r m p h =
     ap (λ (z : List ℕ). record k { recording = z }) r
     ∙ ap (λ (z : List ℕ). record k { recording = recording; marks = z }) m
     ∙ ap (λ (z : List ℕ). record k { recording = recording; marks = marks; keeps = z }) p
+    ∙ ap (λ (z : List ℕ). record k { recording = recording; marks = marks; keeps = keeps; header = z }) h
 
 module _ {F E : Type 0} (f : Files F) (w : Writer E) where
   -- no line is new
@@ -130,6 +89,7 @@ module _ {F E : Type 0} (f : Files F) (w : Writer E) where
     seen = refl;
     written = writes_nothing (f.bytes_at k.files k.keeps);
     reported = refl;
+    fresh = λ sure. sure;
   }
 
   pub sees_none_of : (frame : ℕ) (lines : List (List ℕ)) (k : MarkKeeping F E) → lines ≡ [] → HasSeen f w frame lines k k
@@ -156,6 +116,7 @@ module _ {F E : Type 0} (f : Files F) (w : Writer E) where
             (subst (λ (z : List (List ℕ)). ArePrinted w z a.faults b.faults) (append-nil report) one.reported)
             (subst (λ (z : MarksKept). ArePrinted w (reports_at a.marks frame z lines) b.faults c.faults) one.seen
             (subst (λ (z : List ℕ). ArePrinted w (reports_at z frame b.kept lines) b.faults c.faults) marks more.reported));
+        fresh = λ sure. more.fresh (one.fresh sure);
       }
 
   -- a line, and some of those after it
@@ -171,15 +132,16 @@ module _ {F E : Type 0} (f : Files F) (w : Writer E) where
       record {
         count = suc more.count;
         seen = more.seen ∙ ap (λ (z : MarksKept). with_lines_at frame z (take more.count lines)) one.seen;
-        written = subst (λ (z : List ℕ). Begins (f.bytes_at a.files a.keeps) z (f.bytes_at c.files a.keeps))
-            (sym (append_assoc text (texts_at frame next lines) after))
-            (begins_after (f.bytes_at a.files a.keeps) (f.bytes_at b.files a.keeps) (f.bytes_at c.files a.keeps)
-            text (texts_at frame next lines ++ after)
+        middle = more.middle;
+        whole = writes_more (f.bytes_at a.files a.keeps) (f.bytes_at b.files a.keeps) more.middle
+            text (texts_at frame next (take more.count lines))
             (subst (λ (z : List ℕ). Writes (f.bytes_at a.files a.keeps) z (f.bytes_at b.files a.keeps)) (append-nil text) one.written)
-            (subst (λ (z : MarksKept). Begins (f.bytes_at b.files a.keeps) (texts_at frame z lines ++ after)
-            (f.bytes_at c.files a.keeps)) one.seen
-            (subst (λ (z : List ℕ). Begins (f.bytes_at b.files z) (texts_at frame b.kept lines ++ after) (f.bytes_at c.files z))
-            keeps more.written)));
+            (subst (λ (z : MarksKept). Writes (f.bytes_at b.files a.keeps) (texts_at frame z (take more.count lines)) more.middle)
+            one.seen
+            (subst (λ (z : List ℕ). Writes (f.bytes_at b.files z) (texts_at frame b.kept (take more.count lines)) more.middle)
+            keeps more.whole));
+        part = subst (λ (z : List ℕ). Begins more.middle (next_text frame c.kept (drop more.count lines) after) (f.bytes_at c.files z))
+            keeps more.part;
         reported = printed_more w report (reports_at a.marks frame next (take more.count lines)) a.faults b.faults c.faults
             (subst (λ (z : List (List ℕ)). ArePrinted w z a.faults b.faults) (append-nil report) one.reported)
             (subst (λ (z : MarksKept). ArePrinted w (reports_at a.marks frame z (take more.count lines)) b.faults c.faults) one.seen
@@ -191,18 +153,15 @@ module _ {F E : Type 0} (f : Files F) (w : Writer E) where
   pub sees_none : (frame : ℕ) (line : List ℕ) (lines : List (List ℕ)) (after : List ℕ) (a b : MarkKeeping F E) →
       HasSeenNone f w frame line a b → HasSeenSome f w frame (line ∷ lines) after a b
   unfolding ArePrinted reports_at texts_at
-  sees_none frame line lines after a b none =
-      let text = as_line (mark_text (placed_mark a.kept.points frame (wish_said line))) in
-      let rest = texts_at frame (with_line_at frame a.kept line) lines in
-      record {
-        count = 0;
-        seen = none.seen;
-        written = subst (λ (z : List ℕ). Begins (f.bytes_at a.files a.keeps) z (f.bytes_at b.files a.keeps))
-            (sym (append_assoc text rest after))
-            (begins_longer (f.bytes_at a.files a.keeps) (f.bytes_at b.files a.keeps) text (rest ++ after)
-            (subst (λ (z : List ℕ). Begins (f.bytes_at a.files a.keeps) z (f.bytes_at b.files a.keeps)) (append-nil text) none.written));
-        reported = none.reported;
-      }
+  sees_none frame line lines after a b none = record {
+    count = 0;
+    seen = none.seen;
+    middle = f.bytes_at a.files a.keeps;
+    whole = writes_nothing (f.bytes_at a.files a.keeps);
+    part = subst (λ (z : MarksKept). Begins (f.bytes_at a.files a.keeps) (next_text frame z (line ∷ []) []) (f.bytes_at b.files a.keeps))
+        (sym none.seen) none.written;
+    reported = none.reported;
+  }
 
   -- nothing was seen or written
   pub sees_none_at_all : (frame : ℕ) (lines : List (List ℕ)) (after : List ℕ) (k : MarkKeeping F E) →
@@ -211,12 +170,9 @@ module _ {F E : Type 0} (f : Files F) (w : Writer E) where
   sees_none_at_all frame lines after k = record {
     count = 0;
     seen = refl;
-    written = λ xs is. record {
-      part = [];
-      rest = texts_at frame k.kept lines ++ after;
-      whole = refl;
-      stands = is ∙ ap (λ (z : List ℕ). Some z) (sym (append-nil xs));
-    };
+    middle = f.bytes_at k.files k.keeps;
+    whole = writes_nothing (f.bytes_at k.files k.keeps);
+    part = begins_not (f.bytes_at k.files k.keeps) (next_text frame k.kept lines after);
     reported = refl;
   }
 
@@ -228,8 +184,11 @@ module _ {F E : Type 0} (f : Files F) (w : Writer E) where
   sees_all frame lines after a b c all kept same begun = record {
     count = length lines;
     seen = kept ∙ all.seen ∙ ap (λ (z : List (List ℕ)). with_lines_at frame a.kept z) (sym (take-length lines));
-    written = begins_after (f.bytes_at a.files a.keeps) (f.bytes_at b.files a.keeps) (f.bytes_at c.files a.keeps)
-        (texts_at frame a.kept lines) after all.written begun;
+    middle = f.bytes_at b.files a.keeps;
+    whole = subst (λ (z : List (List ℕ)). Writes (f.bytes_at a.files a.keeps) (texts_at frame a.kept z) (f.bytes_at b.files a.keeps))
+        (sym (take-length lines)) all.written;
+    part = subst (λ (z : List (List ℕ)). Begins (f.bytes_at b.files a.keeps) (next_text frame c.kept z after) (f.bytes_at c.files a.keeps))
+        (sym (drop_all (length lines) lines (omega arith))) begun;
     reported = subst (λ (z : List (List ℕ)). ArePrinted w (reports_at a.marks frame a.kept z) a.faults c.faults) (sym (take-length lines))
         (subst (λ (z : E). ArePrinted w (reports_at a.marks frame a.kept lines) a.faults z) (sym same) all.reported);
   }
@@ -241,7 +200,8 @@ module _ {F E : Type 0} (f : Files F) (w : Writer E) where
   stays_on a b c here there =
       let keeps : b.keeps ≡ a.keeps = ap (λ (z : MarkKeeping F E). z.keeps) here.rest in
       record {
-        rest = there.rest ∙ ap (λ (z : MarkKeeping F E). record z { files = c.files; faults = c.faults; kept = c.kept }) here.rest;
+        rest = there.rest
+            ∙ ap (λ (z : MarkKeeping F E). record z { files = c.files; faults = c.faults; kept = c.kept; is_stale = c.is_stale }) here.rest;
         others = λ path other.
             there.others path (subst (λ (z : List ℕ). path ≢ z) (sym keeps) other) ∙ here.others path other;
       }
@@ -251,14 +211,23 @@ module _ {F E : Type 0} (f : Files F) (w : Writer E) where
     pub whole : (new : MarkKeeping F E) → HasSeen f w frame rest now new → HasSeen f w frame all old new
     pub part : (new : MarkKeeping F E) → HasSeenSome f w frame rest [] now new → HasSeenSome f w frame all [] old new
     pub stays : StaysElse f w old now
+    pub fresh : old.is_stale ≡ false → now.is_stale ≡ false
+    pub agrees : old.is_stale ≡ false → AgreesWithFile f w old → AgreesWithFile f w now
 
   pub turn_begins : (frame : ℕ) (all : List (List ℕ)) (k : MarkKeeping F E) → SeesInTurn frame all all k k
-  turn_begins frame all k = record { whole = λ new h. h; part = λ new h. h; stays = stays_still k }
+  turn_begins frame all k = record {
+    whole = λ new h. h;
+    part = λ new h. h;
+    stays = stays_still k;
+    fresh = λ sure. sure;
+    agrees = λ sure a. a;
+  }
 
   pub turn_goes_on : (frame : ℕ) (all left : List (List ℕ)) (line : List ℕ) (rest : List (List ℕ)) (old now next : MarkKeeping F E) →
       left ≡ line ∷ rest → SeesInTurn frame all left old now →
-      HasSeen f w frame (line ∷ []) now next → StaysElse f w now next → SeesInTurn frame all rest old next
-  turn_goes_on frame all left line rest old now next first turn one stays =
+      HasSeen f w frame (line ∷ []) now next → StaysElse f w now next →
+      (now.is_stale ≡ false → AgreesWithFile f w now → AgreesWithFile f w next) → SeesInTurn frame all rest old next
+  turn_goes_on frame all left line rest old now next first turn one stays agrees =
       let keeps : next.keeps ≡ now.keeps = ap (λ (z : MarkKeeping F E). z.keeps) stays.rest in
       let marks : next.marks ≡ now.marks = ap (λ (z : MarkKeeping F E). z.marks) stays.rest in
       record {
@@ -267,6 +236,8 @@ module _ {F E : Type 0} (f : Files F) (w : Writer E) where
         part = λ new h. turn.part new (subst (λ (z : List (List ℕ)). HasSeenSome f w frame z [] now new) (sym first)
             (sees_some_more frame line rest [] now next new keeps marks one h));
         stays = stays_on old now next turn.stays stays;
+        fresh = λ sure. one.fresh (turn.fresh sure);
+        agrees = λ sure a. agrees (turn.fresh sure) (turn.agrees sure a);
       }
 
   -- no line is left
@@ -291,6 +262,7 @@ module _ {F E : Type 0} (f : Files F) (w : Writer E) where
     written = subst (λ (z : List ℕ → Option (List ℕ)). Writes (z k.keeps) (texts_at frame k.kept lines)
         (f.bytes_at new.files k.keeps)) same h.written;
     reported = h.reported;
+    fresh = h.fresh;
   }
 
   pub sees_some_from : (frame : ℕ) (lines : List (List ℕ)) (after : List ℕ) (k new : MarkKeeping F E) (files : F) →
@@ -299,8 +271,10 @@ module _ {F E : Type 0} (f : Files F) (w : Writer E) where
   sees_some_from frame lines after k new files same h = record {
     count = h.count;
     seen = h.seen;
-    written = subst (λ (z : List ℕ → Option (List ℕ)). Begins (z k.keeps) (texts_at frame k.kept lines ++ after)
-        (f.bytes_at new.files k.keeps)) same h.written;
+    middle = h.middle;
+    whole = subst (λ (z : List ℕ → Option (List ℕ)). Writes (z k.keeps) (texts_at frame k.kept (take h.count lines)) h.middle)
+        same h.whole;
+    part = h.part;
     reported = h.reported;
   }
 
@@ -383,29 +357,38 @@ module _ {F E : Type 0} (f : Files F) (w : Writer E) where
       look_saw k (record k { files = files }) files known.0 left same going known.1 are
       (sees_none_of known.0 left (record k { files = files }) none)
 
-  -- after a look that saw all that is new, the end was kept in part
-  pub end_failed : (k seen new : MarkKeeping F E) (after : List ℕ) → StaysElse f w k seen →
+  -- after all that is new was seen, the end was kept in part
+  end_failed : (k seen new : MarkKeeping F E) (after : List ℕ) → seen.keeps ≡ k.keeps →
       SeesNew f w k seen → new.kept ≡ seen.kept → new.faults ≡ seen.faults →
       Begins (f.bytes_at seen.files seen.keeps) after (f.bytes_at new.files seen.keeps) → SeesSome f w after k new
-  end_failed k seen new after stays sees kept same begun = λ bytes is.
-      let look = sees bytes is in
-      let keeps : seen.keeps ≡ k.keeps = ap (λ (z : MarkKeeping F E). z.keeps) stays.rest in (
+  end_failed k seen new after keeps sees kept same begun = λ bytes is.
+      let look = sees bytes is in (
         look.0,
         look.1,
         sees_all look.0 _ after k seen new look.2 kept same
             (subst (λ (z : List ℕ). Begins (f.bytes_at seen.files z) after (f.bytes_at new.files z)) keeps begun),
       )
 
+  -- after a look
+  pub look_then_failed : (old seen new : MarkKeeping F E) (after : List ℕ) → StaysElse f w old seen →
+      HasLooked f w old seen → new.kept ≡ seen.kept → new.faults ≡ seen.faults →
+      Begins (f.bytes_at seen.files seen.keeps) after (f.bytes_at new.files seen.keeps) → FailsLook f w after old new
+  look_then_failed old seen new after stays looks kept same begun =
+      let ready = looks.0 in
+      let keeps : seen.keeps ≡ ready.keeps =
+      ap (λ (z : MarkKeeping F E). z.keeps) stays.rest ∙ sym (ap (λ (z : MarkKeeping F E). z.keeps) looks.1.rest) in
+      inr (ready, looks.1, end_failed ready seen new after keeps looks.2 kept same begun)
+
   -- what makes one line seen
   pub sees_one : (frame : ℕ) (line : List ℕ) (k new : MarkKeeping F E) →
-      new.kept ≡ with_line_at frame k.kept line →
+      new.kept ≡ with_line_at frame k.kept line → new.is_stale ≡ false →
       Writes (f.bytes_at k.files k.keeps) (as_line (mark_text (placed_mark k.kept.points frame (wish_said line))))
       (f.bytes_at new.files k.keeps) →
       ArePrinted w (option_to_list (skip_report k.marks (one_more k.kept.lines)
       (placed_mark k.kept.points frame (wish_said line)))) k.faults new.faults →
       HasSeen f w frame (line ∷ []) k new
   unfolding reports_at texts_at
-  sees_one frame line k new kept written reported =
+  sees_one frame line k new kept sure written reported =
       let text = as_line (mark_text (placed_mark k.kept.points frame (wish_said line))) in
       let report = option_to_list (skip_report k.marks (one_more k.kept.lines) (placed_mark k.kept.points frame (wish_said line))) in
       record {
@@ -413,35 +396,32 @@ module _ {F E : Type 0} (f : Files F) (w : Writer E) where
         written = subst (λ (z : List ℕ). Writes (f.bytes_at k.files k.keeps) z (f.bytes_at new.files k.keeps))
             (sym (append-nil text)) written;
         reported = subst (λ (z : List (List ℕ)). ArePrinted w z k.faults new.faults) (sym (append-nil report)) reported;
+        fresh = λ was. sure;
       }
 
   pub sees_not : (frame : ℕ) (line : List ℕ) (k new : MarkKeeping F E) → new.kept ≡ k.kept →
       Begins (f.bytes_at k.files k.keeps) (as_line (mark_text (placed_mark k.kept.points frame (wish_said line))))
       (f.bytes_at new.files k.keeps) →
       new.faults ≡ k.faults → HasSeenNone f w frame line k new
-  unfolding texts_at
-  sees_not frame line k new kept written same =
-      let text = as_line (mark_text (placed_mark k.kept.points frame (wish_said line))) in
-      record {
-        seen = kept;
-        written = subst (λ (z : List ℕ). Begins (f.bytes_at k.files k.keeps) z (f.bytes_at new.files k.keeps))
-            (sym (append-nil text)) written;
-        reported = same;
-      }
+  sees_not frame line k new kept written same = record { seen = kept; written = written; reported = same }
 
   -- what is to be kept may be longer
-  pub some_longer : (after : List ℕ) (k new : MarkKeeping F E) → SeesSome f w [] k new → SeesSome f w after k new
+  some_longer : (after : List ℕ) (k new : MarkKeeping F E) → SeesSome f w [] k new → SeesSome f w after k new
   some_longer after k new sees = λ bytes is.
       let some = sees bytes is in
-      let text = texts_at some.0 k.kept (new_lines k.kept (lines_after [] (take 65536 bytes))) in (
+      let left = drop some.2.count (new_lines k.kept (lines_after [] (take 65536 bytes))) in (
         some.0,
         some.1,
         record {
           count = some.2.count;
           seen = some.2.seen;
-          written = subst (λ (z : List ℕ). Begins (f.bytes_at k.files k.keeps) (z ++ after) (f.bytes_at new.files k.keeps))
-              (append-nil text)
-              (begins_longer (f.bytes_at k.files k.keeps) (f.bytes_at new.files k.keeps) (text ++ []) after some.2.written);
+          middle = some.2.middle;
+          whole = some.2.whole;
+          part = begins_next some.0 new.kept left after some.2.middle (f.bytes_at new.files k.keeps) some.2.part;
           reported = some.2.reported;
         },
       )
+
+  pub fails_longer : (after : List ℕ) (k new : MarkKeeping F E) → FailsLook f w [] k new → FailsLook f w after k new
+  fails_longer after k new (inl fails) = inl fails
+  fails_longer after k new (inr some) = inr (some.0, some.1, some_longer after some.0 new some.2)

@@ -4,6 +4,7 @@ use Rattle.std.specs.Prelude.{None, Result, Ok, Err, codes, min, drop, take, len
 use Rattle.std.specs.Prelude.{if◌then◌else◌}
 use Rattle.std.specs.List.{ends_with, prefix_len}
 use Rattle.std.specs.Str.{bytes_eq}
+use Rattle.bw_console.specs.Text.{as_line}
 use Rattle.bw_ports.specs.StateReadings.{lines_after}
 use Rattle.bw_stream.specs.Moves.{one_more}
 use Rattle.bw_live.specs.MarkLines.{wish_said}
@@ -80,10 +81,31 @@ marks_after_header header (first ∷ lines) =
 abbrev pub kept_said : List ℕ → List ℕ → Option MarksKept
 kept_said header bytes = marks_after_header header (lines_after [] bytes)
 
--- what is gone on with under this header, where these bytes are kept: nothing was seen where there are none
+-- what ends the last line of bytes: nothing where it has an end
+abbrev pub cut_end : List ℕ → List ℕ
+cut_end bytes = if ends_with nat_eq bytes (10 ∷ []) then [] else 10 ∷ []
+
+-- what is written to the kept places of an earlier run before they are gone on with: the header where
+-- there is nothing, and the end of a line that was cut off
+abbrev pub begun_text : List ℕ → List ℕ → List ℕ
+begun_text header [] = as_line header
+begun_text header (b ∷ bs) = cut_end (b ∷ bs)
+
+-- what is gone on with under this header, where these bytes are kept: nothing was seen where there are
+-- none, and else what they say once their last line is ended
 abbrev pub GoesOnMarking : List ℕ → List ℕ → MarksKept → Type 0
 GoesOnMarking header [] k = k ≡ no_marks
-GoesOnMarking header (b ∷ bs) k = kept_said header (b ∷ bs) ≡ Some k
+GoesOnMarking header (b ∷ bs) k = kept_said header ((b ∷ bs) ++ cut_end (b ∷ bs)) ≡ Some k
+
+-- no line feed is in this text
+abbrev pub IsOneLine : List ℕ → Type 0
+IsOneLine text = lines_after [] (as_line text) ≡ text ∷ []
+
+-- bytes whose last line is ended keep this
+pub record SaysAll (header bytes : List ℕ) (k : MarksKept) : Type 0 where
+  pub text : List ℕ
+  pub whole : bytes ≡ as_line text
+  pub said : kept_said header bytes ≡ Some k
 
 -- after a line of the marks' file was first seen at this frame
 abbrev pub with_line_at : ℕ → MarksKept → List ℕ → MarksKept

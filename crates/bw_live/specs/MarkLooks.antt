@@ -1,14 +1,14 @@
 -- What a look at the file of marks does.
-use Rattle.std.specs.Prelude.{◌≡◌, ◌≢◌, ℕ, ◌-◌, ◌/◌, Bool, true, false, List, [], ◌∷◌, ◌++◌, Option, Some}
-use Rattle.std.specs.Prelude.{None, Result, Ok, Err, codes, drop, length, max, nat_eq, option_to_list}
+use Rattle.std.specs.Prelude.{◌≡◌, ◌≢◌, ◌≤◌, ◌⊎◌, ℕ, ◌-◌, ◌/◌, Bool, true, false, List, [], ◌∷◌, ◌++◌, Option}
+use Rattle.std.specs.Prelude.{Some, None, Result, Ok, Err, codes, drop, length, max, option_to_list}
 use Rattle.std.specs.Prelude.{string_bytes, take, if◌then◌else◌}
-use Rattle.std.specs.List.{ends_with}
 use Rattle.bw_console.specs.Prints.{IsOf, IsPrint, Print}
 use Rattle.bw_console.specs.Text.{as_line}
 use Rattle.bw_ports.specs.StateReadings.{lines_after}
-use Rattle.bw_stream.specs.Moves.{Begins, Writes, one_more}
+use Rattle.bw_stream.specs.Moves.{Begins, IsWrittenInPart, Writes, one_more}
 use Rattle.bw_stream.specs.declared.sink.Sink.{Ghosts as Writer}
-use Rattle.bw_live.specs.KeptPlaces.{MarksKept, marks_of, with_line_at, with_lines_at}
+use Rattle.bw_live.specs.KeptPlaces.{GoesOnMarking, IsOneLine, MarksKept, SaysAll, begun_text, marks_header}
+use Rattle.bw_live.specs.KeptPlaces.{marks_of, with_line_at, with_lines_at}
 use Rattle.bw_live.specs.MarkLines.{wish_said}
 use Rattle.bw_live.specs.MarkPlaces.{placed_mark}
 use Rattle.bw_live.specs.MarkTexts.{end_text, failed_look_text, mark_text, skipped_text}
@@ -18,17 +18,20 @@ use Rattle.bw_live.specs.declared.keeper.MarkKeeper.{MarkKeeper}
 use Rattle.bw_live.specs.declared.marker.MarkPlace.{MarkPlace}
 
 -- what a keeper has: its files and the writer of its reports; the paths of the recording, of its marks
--- and of their kept places; how many bytes come before the samples, and in a frame; what was seen; and
--- whether a failed look was reported
+-- and of their kept places, and the header of these; how many bytes come before the samples, and in a
+-- frame; what was seen, and whether a place may be kept otherwise, as an append failed; and whether a
+-- failed look was reported
 pub record MarkKeeping (F E : Type 0) : Type 0 where
   pub files : F
   pub faults : E
   pub recording : List ℕ
   pub marks : List ℕ
   pub keeps : List ℕ
+  pub header : List ℕ
   pub skip : ℕ
   pub align : ℕ
   pub kept : MarksKept
+  pub is_stale : Bool
   pub is_reported : Bool
 
 abbrev pub keeping_of : {F E : Type 0} → MarkKeeper F E → MarkKeeping F E
@@ -38,9 +41,11 @@ keeping_of k = record {
   recording = string_bytes k.recording;
   marks = string_bytes k.marks;
   keeps = string_bytes k.keeps;
+  header = k.header.items;
   skip = k.skip;
   align = k.align;
   kept = marks_of k.kept;
+  is_stale = k.is_stale;
   is_reported = k.is_reported;
 }
 
@@ -52,21 +57,13 @@ new_keeping place faults files kept = record {
   recording = place.recording.now;
   marks = place.marks.now;
   keeps = place.recording.now ++ codes ".marks";
+  header = marks_header place.name.now;
   skip = place.skip;
   align = place.align;
   kept = kept;
+  is_stale = false;
   is_reported = false;
 }
-
--- what ends the last line of bytes: nothing where it has an end
-abbrev pub cut_end : List ℕ → List ℕ
-cut_end bytes = if ends_with nat_eq bytes (10 ∷ []) then [] else 10 ∷ []
-
--- what is written to the kept places of an earlier run before they are gone on with: the header where
--- there is nothing, and the end of a line that was cut off
-abbrev pub begun_text : List ℕ → List ℕ → List ℕ
-begun_text header [] = as_line header
-begun_text header (b ∷ bs) = cut_end (b ∷ bs)
 
 -- the lines that weren't seen yet; once there are no more markers, none
 abbrev pub new_lines : MarksKept → List (List ℕ) → List (List ℕ)
@@ -95,6 +92,11 @@ texts_at frame k (line ∷ lines) =
     as_line (mark_text (placed_mark k.points frame (wish_said line)))
     ++ texts_at frame (with_line_at frame k line) lines
 
+-- what keeps the place of the first of these lines; after the last line comes this
+abbrev pub next_text : ℕ → MarksKept → List (List ℕ) → List ℕ → List ℕ
+next_text frame k [] after = after
+next_text frame k (line ∷ lines) after = as_line (mark_text (placed_mark k.points frame (wish_said line)))
+
 -- each of these texts was printed in turn, as far as the writer took it
 unfoldable pub ArePrinted : {S : Type 0} → Writer S → List (List ℕ) → S → S → Type 0
 ArePrinted w [] old new = new ≡ old
@@ -109,27 +111,60 @@ module _ {F E : Type 0} (f : Files F) (w : Writer E) where
     pub written : Writes (f.bytes_at old.files old.keeps) (texts_at frame old.kept lines)
         (f.bytes_at new.files old.keeps)
     pub reported : ArePrinted w (reports_at old.marks frame old.kept lines) old.faults new.faults
+    pub fresh : old.is_stale ≡ false → new.is_stale ≡ false
 
-  -- the first of them did; of what was to be kept of them all, and after them, a prefix is
+  -- the first of them did: what keeps these is written whole, and of what comes next a prefix
   pub record HasSeenSome (frame : ℕ) (lines : List (List ℕ)) (after : List ℕ)
       (old new : MarkKeeping F E) : Type 0 where
     pub count : ℕ
     pub seen : new.kept ≡ with_lines_at frame old.kept (take count lines)
-    pub written : Begins (f.bytes_at old.files old.keeps) (texts_at frame old.kept lines ++ after)
+    pub middle : Option (List ℕ)
+    pub whole : Writes (f.bytes_at old.files old.keeps) (texts_at frame old.kept (take count lines)) middle
+    pub part : Begins middle (next_text frame new.kept (drop count lines) after)
         (f.bytes_at new.files old.keeps)
     pub reported : ArePrinted w (reports_at old.marks frame old.kept (take count lines)) old.faults new.faults
 
   -- this line didn't; of what was to be kept of it, a prefix is
   pub record HasSeenNone (frame : ℕ) (line : List ℕ) (old new : MarkKeeping F E) : Type 0 where
     pub seen : new.kept ≡ old.kept
-    pub written : Begins (f.bytes_at old.files old.keeps) (texts_at frame old.kept (line ∷ []))
+    pub written : Begins (f.bytes_at old.files old.keeps) (next_text frame old.kept (line ∷ []) [])
         (f.bytes_at new.files old.keeps)
     pub reported : new.faults ≡ old.faults
 
   -- nothing else changed
   pub record StaysElse (old new : MarkKeeping F E) : Type 0 where
-    pub rest : new ≡ record old { files = new.files; faults = new.faults; kept = new.kept }
+    pub rest : new ≡ record old {
+      files = new.files;
+      faults = new.faults;
+      kept = new.kept;
+      is_stale = new.is_stale;
+    }
     pub others : (path : List ℕ) → path ≢ old.keeps → f.bytes_at new.files path ≡ f.bytes_at old.files path
+
+  -- the file of kept places keeps what was seen, unless an append failed: of a longer one a later run
+  -- reads only the first bytes
+  pub record AgreesWithFile (k : MarkKeeping F E) : Type 0 where
+    pub bytes : List ℕ
+    pub reported : f.bytes_at k.files k.keeps ≡ Some bytes
+    pub said : IsOneLine k.header → k.is_stale ≡ false → length bytes ≤ 65_536 → SaysAll k.header bytes k.kept
+
+  -- what is gone on with: after a failed append what the file keeps, so that a line counts as seen if its
+  -- place is kept whole, though the report of one that is no marker may be missing
+  pub record Refreshes (old new : MarkKeeping F E) : Type 0 where
+    pub rest : new ≡ record old { files = new.files; kept = new.kept; is_stale = false }
+    pub same : old.is_stale ≡ false → new ≡ old
+    pub going : old.is_stale ≡ true → (b : List ℕ) → f.bytes_at old.files old.keeps ≡ Some b →
+        GoesOnMarking old.header (take 65_536 b) new.kept
+    pub begun : old.is_stale ≡ true → (b : List ℕ) → f.bytes_at old.files old.keeps ≡ Some b →
+        f.bytes_at new.files old.keeps ≡ Some (b ++ begun_text old.header (take 65_536 b))
+    pub others : (path : List ℕ) → path ≢ old.keeps → f.bytes_at new.files path ≡ f.bytes_at old.files path
+
+  -- after a failed append the file couldn't be read or gone on with
+  pub record FailsToRefresh (old new : MarkKeeping F E) : Type 0 where
+    pub stale : old.is_stale ≡ true
+    pub rest : new ≡ record old { files = new.files }
+    pub begun : (b : List ℕ) → f.bytes_at old.files old.keeps ≡ Some b →
+        IsWrittenInPart b (begun_text old.header (take 65_536 b)) (f.bytes_at new.files old.keeps)
 
   -- this is so of the lines of the marks' file that are new, at the frame that the recording has come to
   abbrev pub OfNewLines : (ℕ → List (List ℕ) → Type 0) → MarkKeeping F E → Type 0
@@ -147,9 +182,23 @@ module _ {F E : Type 0} (f : Files F) (w : Writer E) where
   abbrev pub SeesSome : List ℕ → MarkKeeping F E → MarkKeeping F E → Type 0
   SeesSome after old new = OfNewLines (λ frame lines. HasSeenSome frame lines after old new) old
 
+  -- a look saw all lines that are new to what is gone on with
+  abbrev pub HasLooked : MarkKeeping F E → MarkKeeping F E → Type 0
+  HasLooked old new = (ready : MarkKeeping F E) × Refreshes old ready × SeesNew ready new
+
+  -- a look failed: it saw some of them, or none as it couldn't go on
+  abbrev pub FailsLook : List ℕ → MarkKeeping F E → MarkKeeping F E → Type 0
+  FailsLook after old new =
+      FailsToRefresh old new ⊎ ((ready : MarkKeeping F E) × Refreshes old ready × SeesSome after ready new)
+
   -- no more markers are placed, and that is kept, once
   pub record KeepsEnd (old new : MarkKeeping F E) : Type 0 where
-    pub rest : new ≡ record old { files = new.files; kept = record old.kept { is_ended = true } }
+    pub rest : new ≡ record old {
+      files = new.files;
+      kept = record old.kept { is_ended = true };
+      is_stale = new.is_stale;
+    }
+    pub fresh : old.is_stale ≡ false → new.is_stale ≡ false
     pub once : old.kept.is_ended ≡ true → new.files ≡ old.files
     pub written : old.kept.is_ended ≡ false →
         Writes (f.bytes_at old.files old.keeps) (as_line end_text) (f.bytes_at new.files old.keeps)

@@ -1,19 +1,21 @@
 //! Lines are seen, become markers, and are kept.
-ghost use Rattle.std.specs.Prelude.{◌≡◌, ◌++◌, [], ◌∷◌, ℕ, List, IfOk, OnErr, OnOk, Some, codes, drop, false};
-ghost use Rattle.std.specs.Prelude.{option_map, option_to_list, string_bytes, take, true};
+ghost use Rattle.std.specs.Prelude.{◌≡◌, ◌≢◌, ◌++◌, [], ◌∷◌, ℕ, List, IfOk, OnErr, OnOk, Some, codes, drop};
+ghost use Rattle.std.specs.Prelude.{false, option_map, option_to_list, string_bytes, take, true};
 ghost use Rattle.bw_console.specs.Text.{as_line};
-ghost use Rattle.bw_live.specs.KeptPlaces.{GoesOnMarking, marks_header, marks_of};
-ghost use Rattle.bw_live.specs.MarkLooks.{ArePrinted, KeepsEnd, HasSeen, HasSeenNone, HasSeenSome};
-ghost use Rattle.bw_live.specs.MarkLooks.{MarkKeeping, ReportsFailedLook, SeesNew, SeesSome, StaysElse};
-ghost use Rattle.bw_live.specs.MarkLooks.{begun_text, keeping_of, cut_end, new_keeping, skip_report};
+ghost use Rattle.bw_live.specs.KeptPlaces.{GoesOnMarking, begun_text, marks_header};
+ghost use Rattle.bw_live.specs.MarkLooks.{AgreesWithFile, ArePrinted, FailsLook, FailsToRefresh, HasSeen};
+ghost use Rattle.bw_live.specs.MarkLooks.{HasLooked, HasSeenNone, HasSeenSome, KeepsEnd, MarkKeeping};
+ghost use Rattle.bw_live.specs.MarkLooks.{Refreshes, ReportsFailedLook, StaysElse, keeping_of, new_keeping};
+ghost use Rattle.bw_live.specs.MarkLooks.{skip_report};
 ghost use Rattle.bw_live.specs.MarkTexts.{end_text, failed_look_text, skipped_text};
 ghost use Rattle.bw_ports.specs.StateReadings.{lines_after};
-ghost use Rattle.bw_stream.specs.Moves.{Begins, Writes, one_more};
+ghost use Rattle.bw_stream.specs.Moves.{Begins, one_more};
 
 use crate::answer::MarkFault;
 use crate::entry::{END, entry_line};
 use crate::files::MarkFiles;
-use crate::kept::{KeptMarks, kept_in};
+use crate::kept::KeptMarks;
+use crate::kept_file::open_kept;
 use crate::line::{first_line, wish_of};
 use crate::marker::MarkPlace;
 use crate::placing::place;
@@ -22,9 +24,9 @@ use bw_layout::CuePoint;
 use bw_stream::Sink;
 use itoa::Buffer;
 use std::alloc::{AllocError, Global};
-use std::io::{self, ErrorKind};
+use std::io;
 
-/// How much is read of the lines, and of the kept places.
+/// How much is read of the lines.
 const MOST_READ: usize = 65_536;
 
 /// What the path of the file that keeps the places has more than the recording's.
@@ -43,9 +45,12 @@ pub struct MarkKeeper<F, E> {
     recording: String,
     marks: String,
     keeps: String,
+    header: Vec<u8>,
     skip: u64,
     align: u32,
     kept: KeptMarks,
+    /// An append failed, so the file may keep more than `kept`, or a part of a line.
+    is_stale: bool,
     /// A failed look was reported.
     is_reported: bool,
 }
@@ -54,7 +59,7 @@ impl<F: MarkFiles + Drop, E: Sink + Drop> MarkKeeper<F, E> {
     /// Goes on with what is kept beside the recording.
     ///
     /// # Errors
-    /// If the system failed, or another recording's markers are kept there.
+    /// If the system failed, memory was refused, or another recording's markers are kept there.
     pub fn new(
         alloc: Global,
         files: F,
@@ -71,6 +76,14 @@ impl<F: MarkFiles + Drop, E: Sink + Drop> MarkKeeper<F, E> {
             ≡ Some (b ++ begun_text (marks_header place.now.name.now) (take 65_536 b))) }
         ensures rest { IfOk result (λ keeper. keeping_of keeper
             ≡ new_keeping place.now faults (keeping_of keeper).files (keeping_of keeper).kept) }
+        // No other file changes.
+        ensures others { IfOk result (λ keeper. (path : List ℕ) →
+            path ≢ place.now.recording.now ++ codes ".marks" →
+            F.bytes_at (keeping_of keeper).files path ≡ F.bytes_at files path) }
+        // What is gone on with is what a later run reads.
+        ensures agrees { IfOk result (λ keeper. (b : List ℕ) →
+            F.bytes_at files (place.now.recording.now ++ codes ".marks") ≡ Some b →
+            AgreesWithFile F.MarkFiles E.Sink (keeping_of keeper)) }
     {
         let mut files = files;
         let keeps = kept_path(alloc, place.recording)?;
@@ -83,26 +96,37 @@ impl<F: MarkFiles + Drop, E: Sink + Drop> MarkKeeper<F, E> {
             recording: String::from_str(alloc, place.recording)?,
             marks: String::from_str(alloc, place.marks)?,
             keeps,
+            header,
             skip: place.skip,
             align: place.align,
             kept,
+            is_stale: false,
             is_reported: false,
         })
     }
 
-    /// Places the markers of the lines that are new, and reports each line that is no marker.
+    /// Places the markers of the lines that are new, and reports each line that is no marker. After a
+    /// failure the kept places are read again first: a line whose place is kept whole was seen, and if
+    /// it is no marker, it may go unreported.
     ///
     /// # Errors
-    /// If the system failed: the lines before that were seen; the others are seen by the next look.
+    /// If the system failed, or memory was refused: the lines before that were seen; the others are
+    /// seen by the next look.
     ///
     /// # Not specified
     /// When it fails, and the kind of the error.
     pub fn look(&mut self) -> io::Result<()>
-        ensures seen { OnOk result (SeesNew F.MarkFiles E.Sink (keeping_of self.old) (keeping_of self.new)) }
+        ensures seen { OnOk result
+            (HasLooked F.MarkFiles E.Sink (keeping_of self.old) (keeping_of self.new)) }
         ensures failed { OnErr result
-            (SeesSome F.MarkFiles E.Sink [] (keeping_of self.old) (keeping_of self.new)) }
+            (FailsLook F.MarkFiles E.Sink [] (keeping_of self.old) (keeping_of self.new)) }
         ensures stays { StaysElse F.MarkFiles E.Sink (keeping_of self.old) (keeping_of self.new) }
+        // What was seen is what a later run reads, unless the next look reads it again.
+        ensures agrees { AgreesWithFile F.MarkFiles E.Sink (keeping_of self.old) →
+            AgreesWithFile F.MarkFiles E.Sink (keeping_of self.new) }
+        ensures fresh { OnOk result ((keeping_of self.new).is_stale ≡ false) }
     {
+        self.refresh()?;
         if self.kept.is_ended {
             return Ok(());
         }
@@ -119,18 +143,20 @@ impl<F: MarkFiles + Drop, E: Sink + Drop> MarkKeeper<F, E> {
     /// All markers, after a last look. No more are placed, now or in a later run.
     ///
     /// # Errors
-    /// If the system failed: more may still be placed.
+    /// If the system failed, or memory was refused: more may still be placed.
     ///
     /// # Not specified
     /// When it fails, and the kind of the error.
     pub fn end(&mut self) -> io::Result<Vec<CuePoint>>
         ensures all { IfOk result (λ points. points.items ≡ (keeping_of self.new).kept.points) }
         ensures ended { OnOk result ((seen : MarkKeeping F E)
-            × SeesNew F.MarkFiles E.Sink (keeping_of self.old) seen
+            × HasLooked F.MarkFiles E.Sink (keeping_of self.old) seen
             × KeepsEnd F.MarkFiles E.Sink seen (keeping_of self.new)) }
         ensures failed { OnErr result
-            (SeesSome F.MarkFiles E.Sink (as_line end_text) (keeping_of self.old) (keeping_of self.new)) }
+            (FailsLook F.MarkFiles E.Sink (as_line end_text) (keeping_of self.old) (keeping_of self.new)) }
         ensures stays { StaysElse F.MarkFiles E.Sink (keeping_of self.old) (keeping_of self.new) }
+        ensures agrees { AgreesWithFile F.MarkFiles E.Sink (keeping_of self.old) →
+            AgreesWithFile F.MarkFiles E.Sink (keeping_of self.new) }
     {
         self.look()?;
         let points = Vec::from_slice(self.alloc, self.kept.points.as_slice())?;
@@ -158,6 +184,26 @@ impl<F: MarkFiles + Drop, E: Sink + Drop> MarkKeeper<F, E> {
         }
     }
 
+    /// Reads the kept places again if an append failed, and ends a line that was cut off.
+    ///
+    /// # Errors
+    /// If the system failed, memory was refused, or another recording's markers are kept there.
+    fn refresh(&mut self) -> io::Result<()>
+        ensures ready { OnOk result
+            (Refreshes F.MarkFiles E.Sink (keeping_of self.old) (keeping_of self.new)) }
+        ensures failed { OnErr result
+            (FailsToRefresh F.MarkFiles E.Sink (keeping_of self.old) (keeping_of self.new)) }
+        ensures stays { StaysElse F.MarkFiles E.Sink (keeping_of self.old) (keeping_of self.new) }
+    {
+        if !self.is_stale {
+            return Ok(());
+        }
+        let path = self.keeps.as_str();
+        self.kept = open_kept(self.alloc, &mut self.files, path, self.header.as_slice())?;
+        self.is_stale = false;
+        Ok(())
+    }
+
     /// Keeps that no more markers are placed.
     ///
     /// # Errors
@@ -171,25 +217,33 @@ impl<F: MarkFiles + Drop, E: Sink + Drop> MarkKeeper<F, E> {
             (F.bytes_at (keeping_of self.new).files (keeping_of self.old).keeps)) }
         ensures faults { (keeping_of self.new).faults ≡ (keeping_of self.old).faults }
         ensures stays { StaysElse F.MarkFiles E.Sink (keeping_of self.old) (keeping_of self.new) }
+        ensures agrees { (keeping_of self.old).is_stale ≡ false →
+            AgreesWithFile F.MarkFiles E.Sink (keeping_of self.old) →
+            AgreesWithFile F.MarkFiles E.Sink (keeping_of self.new) }
     {
         if self.kept.is_ended {
             return Ok(());
         }
+        self.is_stale = true;
         self.files.append(self.keeps.as_str(), END)?;
         self.kept.is_ended = true;
+        self.is_stale = false;
         Ok(())
     }
 
     /// Places the markers of these lines at a frame.
     ///
     /// # Errors
-    /// If the system failed: the lines before that were seen.
+    /// If the system failed, or memory was refused: the lines before that were seen.
     fn take_all(&mut self, bytes: &[u8], frame: u64) -> io::Result<()>
         ensures seen { OnOk result (HasSeen F.MarkFiles E.Sink frame (lines_after [] bytes.now)
             (keeping_of self.old) (keeping_of self.new)) }
         ensures failed { OnErr result (HasSeenSome F.MarkFiles E.Sink frame (lines_after [] bytes.now) []
             (keeping_of self.old) (keeping_of self.new)) }
         ensures stays { StaysElse F.MarkFiles E.Sink (keeping_of self.old) (keeping_of self.new) }
+        ensures agrees { (keeping_of self.old).is_stale ≡ false →
+            AgreesWithFile F.MarkFiles E.Sink (keeping_of self.old) →
+            AgreesWithFile F.MarkFiles E.Sink (keeping_of self.new) }
     {
         let mut rest = bytes;
         while let Some((line, more)) = first_line(rest) {
@@ -202,20 +256,25 @@ impl<F: MarkFiles + Drop, E: Sink + Drop> MarkKeeper<F, E> {
     /// Places the marker of a line at a frame, and keeps it. A line that is none is reported.
     ///
     /// # Errors
-    /// If the system failed: nothing was placed.
+    /// If the system failed, or memory was refused: nothing was placed.
     fn take_line(&mut self, line: &[u8], frame: u64) -> io::Result<()>
         ensures seen { OnOk result (HasSeen F.MarkFiles E.Sink frame (line.now ∷ [])
             (keeping_of self.old) (keeping_of self.new)) }
         ensures failed { OnErr result (HasSeenNone F.MarkFiles E.Sink frame line.now
             (keeping_of self.old) (keeping_of self.new)) }
         ensures stays { StaysElse F.MarkFiles E.Sink (keeping_of self.old) (keeping_of self.new) }
+        ensures agrees { (keeping_of self.old).is_stale ≡ false →
+            AgreesWithFile F.MarkFiles E.Sink (keeping_of self.old) →
+            AgreesWithFile F.MarkFiles E.Sink (keeping_of self.new) }
     {
         let placed = place(self.kept.points.as_slice(), frame, wish_of(line));
         let report = self.report_on(placed)?;
         let entry = entry_line(&placed);
+        self.is_stale = true;
         self.files
             .append(self.keeps.as_str(), entry.as_str().as_bytes())?;
         self.kept.add(placed)?;
+        self.is_stale = false;
         print_report(report, &mut self.faults);
         Ok(())
     }
@@ -255,49 +314,6 @@ fn header_of(alloc: Global, name: &[u8]) -> Result<Vec<u8>, AllocError>
     Ok(header)
 }
 
-/// What is kept at a path under this header, which is written where there is nothing. A line that was
-/// cut off is ended.
-fn open_kept<F: MarkFiles>(
-    alloc: Global,
-    files: &mut F,
-    path: &str,
-    header: &[u8],
-) -> io::Result<KeptMarks>
-    ensures going { IfOk result (λ kept. (b : List ℕ) → F.bytes_at files.old path.now ≡ Some b →
-        GoesOnMarking header.now (take 65_536 b) (marks_of kept)) }
-    ensures begun { OnOk result ((b : List ℕ) → F.bytes_at files.old path.now ≡ Some b →
-        F.bytes_at files.new path.now ≡ Some (b ++ begun_text header.now (take 65_536 b))) }
-{
-    let bytes = files.read(path, MOST_READ)?;
-    if bytes.as_slice().is_empty() {
-        files.append(path, header)?;
-        files.append(path, b"\n")?;
-        return Ok(KeptMarks::new(alloc)?);
-    }
-    let Some(kept) = kept_in(alloc, header, bytes.as_slice())? else {
-        return Err(io::Error::new(
-            ErrorKind::InvalidInput,
-            "the file of the same name with .marks at its end is of another recording",
-        ));
-    };
-    end_last_line(files, path, bytes.as_slice())?;
-    Ok(kept)
-}
-
-/// KeepsEnd the last line of a file's bytes, if it was cut off.
-///
-/// # Errors
-/// If the system failed.
-fn end_last_line<F: MarkFiles>(files: &mut F, path: &str, bytes: &[u8]) -> io::Result<()>
-    ensures { OnOk result
-        (Writes (F.bytes_at files.old path.now) (cut_end bytes.now) (F.bytes_at files.new path.now)) }
-{
-    if bytes.ends_with(b"\n") {
-        return Ok(());
-    }
-    files.append(path, b"\n")
-}
-
 /// What follows so many lines.
 fn after_lines(bytes: &[u8], count: u64) -> &[u8]
     ensures { lines_after [] result.now ≡ drop count (lines_after [] bytes.now) }
@@ -332,6 +348,8 @@ fn failed_line(alloc: Global, error: &io::Error) -> Result<String, AllocError>
     failed_line_in(alloc, words.as_str())
 }
 
+/// The same of the error's words. They are formatted before: nothing states what an error is written as,
+/// so `format!` of the whole line would ensure nothing.
 fn failed_line_in(alloc: Global, words: &str) -> Result<String, AllocError>
     ensures { IfOk result (λ line. string_bytes line ≡ as_line (failed_look_text words.now)) }
 {

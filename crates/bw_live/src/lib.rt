@@ -17,6 +17,7 @@ mod growing_files;
 mod header;
 mod keeper;
 mod kept;
+mod kept_file;
 mod line;
 mod marker;
 mod number;
